@@ -1,17 +1,19 @@
 -- What is taken does not depend on the registers of the variables around.
-use Rattle.std.proofs.Common.{◌≡◌, ◌∙◌, ℕ, zero, suc, ◌+◌, ◌-◌, ◌^◌, List, [], ◌∷◌, ◌++◌, length, Bool, true, false, Option, Some, None, if◌then◌else◌, ap, refl, sym, subst, arith}
-use Rattle.std.specs.Prelude.{min, nat_le, slice_get, option_and_then}
+use Rattle.std.proofs.Common.{inl, inr, ◌≡◌, ◌∙◌, ℕ, zero, suc, ◌+◌, ◌-◌, ◌^◌, List, [], ◌∷◌, ◌++◌, length, Bool, true, false, Option, Some, None, if◌then◌else◌, ap, refl, sym, subst}
+use Rattle.std.specs.Prelude.{min, nat_le, reverse, slice_get, option_and_then}
 use Rattle.lp_calculus.specs.Types.{Ty}
 use Rattle.lp_calculus.specs.Term.{Term, Atom, index, atom, abs, app, constant, integer, text, eigen, logic, param}
 use Rattle.lp_calculus.specs.Typing.{o_type}
 use Rattle.lp_calculus.specs.Spine.{head_of, arguments}
-use Rattle.lp_model.specs.Flat.{Goal, Goals, Atomic, Cut, Either, Exists, Forall, Assume, Not, no_goals, goals}
-use Rattle.lp_gen.specs.Limits.{past}
-use Rattle.lp_gen.specs.Registers.{Amount, nothing, both, step_takes, steps_take, term_takes, behind_term, terms_take, behind_terms, all_take, call_takes, plain_code, type_takes, call_of, goal_of_head, atom_takes, built_takes, atom_got, term_got, argument_by, argument_takes, atom_left, term_left, left_by_first, behind_argument, head_arguments_take, behind_arguments, head_takes, behind_head, predicate_types_take, unset_takes, unset_take, variable_takes, count_standing, count_clauses, count_variables, with_variable, all_set, in_body, assume_takes, goal_takes, goals_take}
+use Rattle.lp_model.specs.Flat.{Goal, Goals, Clauses, Atomic, Cut, Either, Exists, Forall, Assume, Not, no_goals, goals, clause, no_clauses, clauses}
+use Rattle.lp_gen.specs.Steps.{first_place, level_first, if_unset, from_of, to_of, Step, apply_last, abstract_last, make_variable, from_register, Seen, Around, one_step, marked, set_level, at_level, level_in, level_below}
+use Rattle.lp_gen.specs.Steps.{Listed, listed, Headed, headed, index_listed, bound_listed, level_listed, found_listed, seen_listed, atom_listed, abstracted, as_head, with_argument, applied, type_or}
+use Rattle.lp_gen.specs.Steps.{bound_or, index_type, head_type, atom_function}
+use Rattle.lp_gen.specs.Registers.{past, Amount, nothing, both, step_takes, steps_take, term_takes, behind_term, terms_take, behind_terms, all_take, call_takes, plain_code, type_takes, call_of, goal_of_head, atom_takes}
+use Rattle.lp_gen.specs.Registers.{built_takes, term_got, argument_by, argument_takes, term_left, left_by_first, behind_argument, head_arguments_take, behind_arguments, head_takes, behind_head}
+use Rattle.lp_gen.specs.Registers.{predicate_types_take, unset_takes, unset_take, variable_takes, behind_goal, behind_goals, unset, with_unset, in_clauses, start_of, one_given, count_given, count_standing, count_clauses}
+use Rattle.lp_gen.specs.Registers.{count_variables, with_variable, all_set, in_body, assume_takes, goal_takes, goals_take, variables_take, body_takes, clause_takes, started, Passes, SomeOfGoal, SomeOfGoals, SomeAssumed}
 use Rattle.lp_gen.specs.inner.Alike.{SameSeen, AllSame, IsAlike}
-use Rattle.lp_gen.specs.inner.Heading.{first_place, level_first, if_unset}
-use Rattle.lp_gen.specs.inner.Reading.{from_of, to_of}
-use Rattle.lp_gen.specs.inner.Listing.{Step, apply_last, abstract_last, make_variable, from_register, Seen, Around, one_step, marked, set_level, at_level, level_in, level_below, count_around, seen_in, Listed, listed, Headed, headed, index_listed, bound_listed, level_listed, found_listed, seen_listed, atom_listed, abstracted, as_head, with_argument, applied, type_or, bound_or, index_type, head_type, atom_function}
 use Rattle.lp_gen.proofs.StepsUsed.{steps_joined}
 
 -- variables that differ in their registers alone
@@ -328,6 +330,81 @@ pub itself_same : (vs : List Seen) → AllSame vs vs
 itself_same [] = tt
 itself_same (v ∷ vs) = ((refl, refl), itself_same vs)
 
+pub seen_itself : (o : Option Seen) → SameSeen o o
+seen_itself None = tt
+seen_itself (Some v) = (refl, refl)
+
+pub alike_itself : (a : Around) → IsAlike a a
+alike_itself a = record { base = refl; own = itself_same a.own; captured = λ l. seen_itself (a.captured l) }
+
+seen_then : (o p q : Option Seen) → SameSeen o p → SameSeen p q → SameSeen o q
+seen_then None None q s t = t
+seen_then None (Some w) q s t = absurd s
+seen_then (Some v) None q s t = absurd s
+seen_then (Some v) (Some w) None s t = absurd t
+seen_then (Some v) (Some w) (Some u) s t = (s.0 ∙ t.0, s.1 ∙ t.1)
+
+all_then : (us vs ws : List Seen) → AllSame us vs → AllSame vs ws → AllSame us ws
+all_then [] [] ws s t = t
+all_then [] (v ∷ vs) ws s t = absurd s
+all_then (u ∷ us) [] ws s t = absurd s
+all_then (u ∷ us) (v ∷ vs) [] s t = absurd t
+all_then (u ∷ us) (v ∷ vs) (w ∷ ws) s t = ((s.0.0 ∙ t.0.0, s.0.1 ∙ t.0.1), all_then us vs ws s.1 t.1)
+
+pub alike_then : {a b c : Around} → IsAlike a b → IsAlike b c → IsAlike a c
+alike_then {a} {b} {c} x y = record {
+  base = x.base ∙ y.base;
+  own = all_then a.own b.own c.own x.own y.own;
+  captured = λ l. seen_then (a.captured l) (b.captured l) (c.captured l) (x.captured l) (y.captured l);
+}
+
+mutual
+  pub behind_goal_same : (a b : Around) (g : Goal) → IsAlike a b → IsAlike (behind_goal a g) (behind_goal b g)
+  behind_goal_same a b (Atomic t) x = x
+  behind_goal_same a b Cut x = x
+  behind_goal_same a b (Either gs hs) x = x
+  behind_goal_same a b (Exists T gs) x = behind_goals_same (with_variable a T) (with_variable b T) gs (with_variable_same a b T x)
+  behind_goal_same a b (Forall T gs) x = x
+  behind_goal_same a b (Assume w cs gs) x = x
+  behind_goal_same a b (Not w gs) x = x
+
+  pub behind_goals_same : (a b : Around) (gs : Goals) → IsAlike a b → IsAlike (behind_goals a gs) (behind_goals b gs)
+  behind_goals_same a b no_goals x = x
+  behind_goals_same a b (goals g gs) x = behind_goals_same (behind_goal a g) (behind_goal b g) gs (behind_goal_same a b g x)
+
+-- what assumed records start with
+
+if_same : (t : Bool) (o p : Option Seen) → SameSeen o p → SameSeen (if t then o else None) (if t then p else None)
+if_same true o p s = s
+if_same false o p s = tt
+
+pub start_same : (a b : Around) (cs : Clauses) → IsAlike a b → IsAlike (start_of a cs) (start_of b cs)
+start_same a b cs x = record {
+  base = count_same a b x;
+  own = tt;
+  captured = λ l. subst (λ n. SameSeen (if in_clauses (count_variables a - l - 1) cs then at_level a l else None) (if in_clauses (n - l - 1) cs then at_level b l else None)) (count_same a b x)
+      (if_same (in_clauses (count_variables a - l - 1) cs) (at_level a l) (at_level b l) (alike_at a b l x));
+}
+
+one_same : (o p : Option Seen) → SameSeen o p → one_given o ≡ one_given p
+one_same None None s = refl
+one_same None (Some w) s = absurd s
+one_same (Some v) None s = absurd s
+one_same (Some v) (Some w) s = refl
+
+pub given_same : (f g : ℕ → Option Seen) (n : ℕ) → ((l : ℕ) → SameSeen (f l) (g l)) → count_given f n ≡ count_given g n
+given_same f g zero s = refl
+given_same f g (suc l) s = let e = one_same (f l) (g l) (s l) in let r = given_same f g l s in (λ i. e i + r i)
+
+pub start_count_same : (a b : Around) → IsAlike a b → count_given a.captured a.base ≡ count_given b.captured b.base
+start_count_same a b x = given_same a.captured b.captured a.base x.captured ∙ ap (count_given b.captured) x.base
+
+pub standing_same : (a b : Around) (cs : Clauses) → IsAlike a b → count_standing a cs ≡ count_standing b cs
+standing_same a b cs x = start_count_same (start_of a cs) (start_of b cs) (start_same a b cs x)
+
+pub with_unset_same : (a b : Around) (Ts : List Ty) → IsAlike a b → IsAlike (with_unset a Ts) (with_unset b Ts)
+with_unset_same a b Ts x = record { base = x.base; own = itself_same (unset (reverse Ts)); captured = x.captured }
+
 module _ (K : ℕ → List Ty → Ty) (v : ℕ) where
   mutual
     pub goal_same : (a b : Around) (g : Goal) → IsAlike a b → goal_takes K v a g ≡ goal_takes K v b g
@@ -336,10 +413,47 @@ module _ (K : ℕ → List Ty → Ty) (v : ℕ) where
     goal_same a b (Either gs hs) x = (λ i. both (plain_code 5 0) (both (goals_same a b gs x i) (both (plain_code 5 0) (goals_same a b hs x i))))
     goal_same a b (Exists T gs) x = ap (both (variable_takes T)) (goals_same (with_variable a T) (with_variable b T) gs (with_variable_same a b T x))
     goal_same a b (Forall T gs) x = ap (λ m. both (variable_takes T) (both m (plain_code 1 0))) (goals_same (with_variable a T) (with_variable b T) gs (with_variable_same a b T x))
-    goal_same a b (Assume w cs gs) x =
-        (λ i. both (assume_takes v (count_standing (count_same a b x i) cs) (count_clauses cs)) (both (goals_same a b gs x i) (plain_code 1 0)))
+    goal_same a b (Assume w cs gs) x = (λ i. both (assume_takes v (standing_same a b cs x i) (count_clauses cs)) (both (goals_same a b gs x i) (plain_code 1 0)))
     goal_same a b (Not w gs) x = ap (λ m. both (plain_code 1 0) (both m (plain_code 1 0))) (goals_same a b gs x)
 
     pub goals_same : (a b : Around) (gs : Goals) → IsAlike a b → goals_take K v a gs ≡ goals_take K v b gs
     goals_same a b no_goals x = refl
-    goals_same a b (goals g gs) x = (λ i. both (goal_same a b g x i) (goals_same a b gs x i))
+    goals_same a b (goals g gs) x = (λ i. both (goal_same a b g x i) (goals_same (behind_goal a g) (behind_goal b g) gs (behind_goal_same a b g x) i))
+
+  -- so do records
+
+  body_same : (a b : Around) (gs : Goals) → IsAlike a b → body_takes K v a gs ≡ body_takes K v b gs
+  body_same a b gs x =
+      let e = unset_same a.own b.own x.own in
+      let r = goals_same (in_body a) (in_body b) gs (in_body_same a b x) in
+      (λ i. both (e i) (both (plain_code 1 0) (both (r i) (plain_code 1 0))))
+
+  pub clause_same : (s t : Around) (vs : List Ty) (h : Term) (b : Goals) → IsAlike s t → clause_takes K v s vs h b ≡ clause_takes K v t vs h b
+  clause_same s t vs h b x =
+      let p = head_same K (with_unset s vs) (with_unset t vs) h (with_unset_same s t vs x) in
+      let r = body_same (behind_head K (with_unset s vs) h) (behind_head K (with_unset t vs) h) b p.1 in
+      (λ i. both (variables_take (length vs)) (both (p.0 i) (r i)))
+
+  mutual
+    pub some_goal_same : (a b : Around) (g : Goal) → IsAlike a b → SomeOfGoal K v a g → SomeOfGoal K v b g
+    some_goal_same a b (Atomic t) x p = absurd p
+    some_goal_same a b Cut x p = absurd p
+    some_goal_same a b (Either gs hs) x (inl p) = inl (some_goals_same a b gs x p)
+    some_goal_same a b (Either gs hs) x (inr p) = inr (some_goals_same a b hs x p)
+    some_goal_same a b (Exists T gs) x p = some_goals_same (with_variable a T) (with_variable b T) gs (with_variable_same a b T x) p
+    some_goal_same a b (Forall T gs) x p = some_goals_same (with_variable a T) (with_variable b T) gs (with_variable_same a b T x) p
+    some_goal_same a b (Assume w cs gs) x (inl p) = inl (some_assumed_same (start_of a cs) (start_of b cs) cs (start_same a b cs x) p)
+    some_goal_same a b (Assume w cs gs) x (inr p) = inr (some_goals_same a b gs x p)
+    some_goal_same a b (Not w gs) x p = some_goals_same a b gs x p
+
+    pub some_goals_same : (a b : Around) (gs : Goals) → IsAlike a b → SomeOfGoals K v a gs → SomeOfGoals K v b gs
+    some_goals_same a b no_goals x p = absurd p
+    some_goals_same a b (goals g gs) x (inl p) = inl (some_goal_same a b g x p)
+    some_goals_same a b (goals g gs) x (inr p) = inr (some_goals_same (behind_goal a g) (behind_goal b g) gs (behind_goal_same a b g x) p)
+
+    pub some_assumed_same : (s t : Around) (cs : Clauses) → IsAlike s t → SomeAssumed K v s cs → SomeAssumed K v t cs
+    some_assumed_same s t no_clauses x p = absurd p
+    some_assumed_same s t (clauses (clause n vs h b) cs) x (inl p) =
+        let e = start_count_same s t x in let r = clause_same s t vs h b x in inl (subst Passes (λ i. both (started v (e i)) (r i)) p)
+    some_assumed_same s t (clauses (clause n vs h b) cs) x (inr (inl p)) = inr (inl (some_goals_same (in_body (with_unset s vs)) (in_body (with_unset t vs)) b (in_body_same _ _ (with_unset_same s t vs x)) p))
+    some_assumed_same s t (clauses (clause n vs h b) cs) x (inr (inr p)) = inr (inr (some_assumed_same s t cs x p))

@@ -16,12 +16,12 @@ use Rattle.lp_code.specs.Rules.{has_type, has_count, out_of_turn, is_argument, i
 use Rattle.lp_gen.specs.declared.emitter.Emitter.{Emitter}
 use Rattle.lp_gen.specs.inner.Running.{TermsStand, AreTypesPut}
 use Rattle.lp_gen.specs.inner.Saying.{ConstantGot, IntegerGot, TextGot, TermGot}
-use Rattle.lp_gen.specs.inner.Listing.{Seen, Around, at_level, level_in, set_level}
+use Rattle.lp_gen.specs.Steps.{Seen, Around, at_level, level_in, set_level, if_unset, level_first, first_place}
 use Rattle.lp_gen.specs.inner.TermSteps.{made_variable}
 use Rattle.lp_gen.specs.inner.TermLaw.{Standing, IsSeen, level_term, with_variables}
 use Rattle.lp_gen.specs.inner.Written.{IsWell, TermWritten}
 use Rattle.lp_gen.specs.inner.Doing.{Does}
-use Rattle.lp_gen.specs.inner.Heading.{VariableGot, if_unset, level_first, first_place, AreOwn, HaveStood, PredicateStands, ArgumentGot}
+use Rattle.lp_gen.specs.inner.Heading.{VariableGot, AreOwn, HaveStood, PredicateStands, ArgumentGot}
 use Rattle.lp_gen.proofs.OwnSet.{plain_both}
 use Rattle.lp_gen.proofs.CodeOwned.{none_owned, owns_then, one_owned}
 use Rattle.lp_gen.proofs.StepsOwn.{no_types_more}

@@ -9,7 +9,7 @@ use Rattle.lp_code.specs.Symbolic.{Built, variable, held, whole}
 use Rattle.lp_code.specs.States.{Home}
 use Rattle.lp_code.specs.Rules.{stands_in}
 use Rattle.lp_gen.specs.Sources.{IsKnownType}
-use Rattle.lp_gen.specs.inner.Listing.{Seen, Around, level_below, level_in, at_level, marked, set_level}
+use Rattle.lp_gen.specs.Steps.{Seen, Around, level_below, level_in, at_level, marked, set_level}
 use Rattle.lp_gen.specs.inner.TermSteps.{made_variable}
 use Rattle.lp_gen.specs.inner.TermLaw.{Standing, AllLoose, as_set, IsSeen, level_term, with_variables, SameAround, Made}
 use Rattle.lp_gen.proofs.Denoting.{held_set}

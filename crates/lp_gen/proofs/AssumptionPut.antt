@@ -4,7 +4,7 @@ use Rattle.std.specs.Prelude.{min}
 use Rattle.std.proofs.lemmas.List.{append-nil}
 use Rattle.lp_code.specs.Denote.{from_zero}
 use Rattle.lp_gen.specs.declared.plan.Assumption.{Assumption}
-use Rattle.lp_gen.specs.inner.Listing.{Seen, Around, at_level}
+use Rattle.lp_gen.specs.Steps.{Seen, Around, at_level}
 use Rattle.lp_gen.specs.inner.GoalCode.{numbers, AreRegisters}
 use Rattle.lp_gen.specs.inner.BodyCode.{level_found, levels_found}
 

@@ -33,10 +33,9 @@ use Rattle.lp_code.specs.Rules.{built_types, has_count, has_type, is_no_term, is
 use Rattle.lp_code.specs.Denote.{run}
 use Rattle.lp_gen.specs.declared.emitter.Emitter.{Emitter}
 use Rattle.lp_gen.specs.Sources.{types_by, IsKnownType}
-use Rattle.lp_gen.specs.inner.Reading.{from_of, to_of}
+use Rattle.lp_gen.specs.Steps.{from_of, to_of, Around, head_type}
 use Rattle.lp_gen.specs.inner.Running.{HasRoom, MayEnd, ends_before, TypesStand, TermsStand, Leads, AreTypesPut}
 use Rattle.lp_gen.specs.inner.Saying.{AreGoalParts, CallPut, IsGoalTerm, TermCallPut, Turns}
-use Rattle.lp_gen.specs.inner.Listing.{Around, head_type}
 use Rattle.lp_gen.specs.inner.TermSteps.{StandIn}
 use Rattle.lp_gen.specs.inner.TermLaw.{Standing, KnownAtoms, AllLoose, IsSeen, with_variables}
 use Rattle.lp_gen.specs.inner.Written.{Goes, AreAsked, IsWell, TermWritten, AreWell, wholes, ArgumentsWritten}

@@ -1,12 +1,12 @@
 -- What an atom takes, by the nodes of its spine.
-use Rattle.std.proofs.Common.{◌≡◌, ◌∙◌, ℕ, List, [], ◌∷◌, length, map, Bor, ap, refl, sym, subst}
+use Rattle.std.proofs.Common.{◌≡◌, ◌∙◌, ℕ, List, [], length, map, ap, refl, sym}
 use Rattle.lp_calculus.specs.Types.{Ty}
 use Rattle.lp_calculus.specs.Term.{Term, Atom, index, atom, abs, app, apply, constant, integer, text, eigen, logic, param}
 use Rattle.lp_calculus.specs.Spine.{head_of, arguments}
 use Rattle.lp_term.specs.Nodes.{Nodes, type_tree}
 use Rattle.lp_term.specs.declared.node.TypeId.{TypeId}
 use Rattle.lp_gen.specs.Registers.{both, all_take, terms_take, call_takes, call_of, goal_of_head, goal_term_takes, atom_takes}
-use Rattle.lp_gen.specs.inner.Listing.{Around, head_type}
+use Rattle.lp_gen.specs.Steps.{Around, head_type}
 use Rattle.lp_gen.proofs.AtomWritten.{head_apply, arguments_is}
 use Rattle.lp_gen.proofs.Courses.{mapped_types}
 

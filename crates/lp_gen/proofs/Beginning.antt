@@ -17,7 +17,7 @@ use Rattle.lp_code.specs.Rules.{breaks_head}
 use Rattle.lp_code.specs.Denote.{broken_by}
 use Rattle.lp_gen.specs.declared.emitter.Emitter.{Emitter}
 use Rattle.lp_gen.specs.inner.Running.{TermsStand, HasRoom, IsTypePut}
-use Rattle.lp_gen.specs.inner.Listing.{Seen, Around, at_level, set_level}
+use Rattle.lp_gen.specs.Steps.{Seen, Around, at_level, set_level}
 use Rattle.lp_gen.specs.inner.TermSteps.{made_variable}
 use Rattle.lp_gen.specs.inner.TermLaw.{Standing}
 use Rattle.lp_gen.specs.inner.Written.{Goes}

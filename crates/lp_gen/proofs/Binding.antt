@@ -10,7 +10,7 @@ use Rattle.lp_model.specs.Flat.{Goal, Goals, Clauses, Atomic, Cut, Either, Exist
 use Rattle.lp_code.specs.Symbolic.{variable}
 use Rattle.lp_code.specs.States.{placed, index_or, bound_at, bind_term}
 use Rattle.lp_code.specs.Written.{nothing_written}
-use Rattle.lp_gen.specs.inner.Listing.{Seen, Around, count_around, level_below, level_in}
+use Rattle.lp_gen.specs.Steps.{Seen, Around, count_around, level_below, level_in}
 use Rattle.lp_gen.specs.inner.TermLaw.{KnownAtoms, AllLoose, level_term, index_term, with_variables}
 use Rattle.lp_gen.specs.inner.Bodies.{pushed, new_level, IsShort, with_level, bare_goal, IsThrough, AreThrough, AllThrough, HasLevel, Binds, said_goals, said_clauses}
 

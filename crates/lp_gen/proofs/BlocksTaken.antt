@@ -10,7 +10,7 @@ use Rattle.lp_code.specs.declared.instruction.Instr.TheVariants as on
 use Rattle.lp_code.specs.Length.{length_of}
 use Rattle.lp_code.specs.States.{with_goal}
 use Rattle.lp_code.specs.Written.{nothing_written}
-use Rattle.lp_gen.specs.inner.Listing.{Around}
+use Rattle.lp_gen.specs.Steps.{Around}
 use Rattle.lp_gen.specs.inner.Bodies.{pushed}
 use Rattle.lp_gen.specs.inner.GoalCode.{quantified, GoalCode, GoalsCode}
 use Rattle.lp_gen.specs.inner.OpenGoals.{in_left, in_right, in_all, in_assumption, in_denial, OpenBlock, block, Walked, walked, Mark, mark, AreNoSigma, Start, Opens, Stands, cut_to, Closes, Leaves, RightLeaves, Turns}

@@ -18,7 +18,8 @@ use Rattle.lp_gen.specs.declared.body.Block.{Block}
 use Rattle.lp_gen.specs.declared.plan.Step.{Step}
 use Rattle.lp_gen.specs.declared.plan.Step.TheVariants as step
 use Rattle.lp_gen.specs.declared.tables.Tables.{Tables}
-use Rattle.lp_gen.specs.inner.Listing.{Seen, Around, around_of, seen}
+use Rattle.lp_gen.specs.Steps.{Seen, Around}
+use Rattle.lp_gen.specs.inner.Listing.{around_of, seen}
 use Rattle.lp_gen.specs.inner.TermLaw.{AreSet}
 use Rattle.lp_gen.specs.inner.Bodies.{new_level}
 use Rattle.lp_gen.specs.inner.OpenGoals.{OpenBlock, block, in_left, in_right, in_some, in_all, in_assumption, in_denial, Walked, walked, closed, BodyStep, either, turn, end_either, some, all, end_all, end_assume, deny, end_deny}

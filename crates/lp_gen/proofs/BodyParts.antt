@@ -21,7 +21,7 @@ use Rattle.lp_code.specs.Rules.{is_passed, side_is_passed, named_before, is_assu
 use Rattle.lp_code.specs.Denote.{from_zero, is_set_by_all}
 use Rattle.lp_gen.specs.Sources.{IsKnownType}
 use Rattle.lp_gen.specs.inner.Running.{TypesStand, TermsStand, HasRoom, ends_before, MayEnd, Hold, Leads}
-use Rattle.lp_gen.specs.inner.Listing.{Around}
+use Rattle.lp_gen.specs.Steps.{Around}
 use Rattle.lp_gen.specs.inner.TermLaw.{Standing, KnownAtoms, AllLoose, AreSet}
 use Rattle.lp_gen.specs.inner.Bodies.{pushed, new_level, with_level, IsThrough, AreThrough, AllThrough, HasLevel, bare_goal, bare_goals, bare_clauses, said_goals}
 use Rattle.lp_gen.specs.inner.GoalCode.{quantified, KindCode, numbers, AreRegisters}

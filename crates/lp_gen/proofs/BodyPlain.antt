@@ -8,7 +8,7 @@ use Rattle.lp_model.specs.Flat.{Goal, Goals, Clauses, Atomic, Cut, Either, Exist
 use Rattle.lp_code.specs.declared.instruction.Instr.{Instr}
 use Rattle.lp_code.specs.declared.instruction.Instr.TheVariants as on
 use Rattle.lp_code.specs.States.{member}
-use Rattle.lp_gen.specs.inner.Listing.{Around}
+use Rattle.lp_gen.specs.Steps.{Around}
 use Rattle.lp_gen.specs.inner.TermLaw.{AreSet}
 use Rattle.lp_gen.specs.inner.Owned.{makes, AreStarted}
 use Rattle.lp_gen.specs.inner.Bodies.{pushed}

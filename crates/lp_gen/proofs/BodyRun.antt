@@ -15,7 +15,7 @@ use Rattle.lp_code.specs.Rules.{nesting_limit}
 use Rattle.lp_code.specs.Denote.{Done, run}
 use Rattle.lp_gen.specs.Sources.{goal_depth, goals_depth, clauses_depth}
 use Rattle.lp_gen.specs.inner.Running.{ends_before}
-use Rattle.lp_gen.specs.inner.Listing.{Around}
+use Rattle.lp_gen.specs.Steps.{Around}
 use Rattle.lp_gen.specs.inner.TermLaw.{with_variables}
 use Rattle.lp_gen.specs.inner.Bodies.{bare_goals, said_goals}
 use Rattle.lp_gen.specs.inner.GoalCode.{GoalsCode}

@@ -19,7 +19,7 @@ use Rattle.lp_code.specs.Rules.{nesting_limit}
 use Rattle.lp_code.specs.Denote.{from_zero}
 use Rattle.lp_gen.specs.Sources.{IsKnownType, goal_depth, goals_depth, clauses_depth, ends_list}
 use Rattle.lp_gen.specs.inner.Running.{TypesStand, TermsStand, ends_before, MayEnd, Hold, Leads}
-use Rattle.lp_gen.specs.inner.Listing.{Seen, Around, at_level}
+use Rattle.lp_gen.specs.Steps.{Seen, Around, at_level}
 use Rattle.lp_gen.specs.inner.TermLaw.{Standing, IsSeen}
 use Rattle.lp_gen.specs.inner.Doing.{Says}
 use Rattle.lp_gen.specs.inner.Bodies.{pushed, new_level, IsShort, with_level, bare_goal, bare_goals, bare_clauses, said_goal, said_goals, said_clauses, GoalsSaid, frame_of}

@@ -15,7 +15,7 @@ use Rattle.lp_code.specs.Denote.{from_zero}
 use Rattle.lp_gen.specs.declared.emitter.Emitter.{Emitter}
 use Rattle.lp_gen.specs.declared.body.Block.{Block}
 use Rattle.lp_gen.specs.inner.Running.{IsTypePut}
-use Rattle.lp_gen.specs.inner.Listing.{Seen, Around}
+use Rattle.lp_gen.specs.Steps.{Seen, Around}
 use Rattle.lp_gen.specs.inner.TermLaw.{AreSet}
 use Rattle.lp_gen.specs.inner.Doing.{AtomWritten}
 use Rattle.lp_gen.specs.inner.Bodies.{pushed, new_level, IsShort}
@@ -44,7 +44,7 @@ rest_same x y xs ys e = cc
 
 -- variables that are left
 
-cut_set : (n : ℕ) (a : Around) → AreSet a → AreSet (cut_to n a)
+pub cut_set : (n : ℕ) (a : Around) → AreSet a → AreSet (cut_to n a)
 cut_set n a set l v e = go (nat_le a.base l) refl
   where
     kept : (xs : List Seen) (m i : ℕ) → slice_get (take m xs) i ≡ Some v → slice_get xs i ≡ Some v

@@ -1,13 +1,12 @@
 -- What a goal takes whose parts stand in registers: equations and orders have instructions of their own.
-use Rattle.std.proofs.Common.{◌≡◌, ◌∙◌, ℕ, zero, suc, ◌+◌, ◌*◌, List, [], ◌∷◌, length, Option, Some, None, ap, refl, subst}
+use Rattle.std.proofs.Common.{◌≡◌, ℕ, ◌+◌, ◌*◌, List, [], ◌∷◌, length, Option, Some, None, ap, refl, subst}
 use Rattle.std.specs.Prelude.{option_and_then}
 use Rattle.lp_standard.specs.Constants.{numbered}
 use Rattle.lp_standard.specs.declared.constant.Constant.{Constant}
 use Rattle.lp_standard.specs.declared.constant.Constant.TheVariants as standard
 use Rattle.lp_code.specs.declared.instruction.Instr.{Instr}
 use Rattle.lp_code.specs.Length.{length_of}
-use Rattle.lp_gen.specs.Limits.{past}
-use Rattle.lp_gen.specs.Registers.{plain_code, own_bytes, equation_bytes, order_bytes, call_code, call_takes}
+use Rattle.lp_gen.specs.Registers.{past, plain_code, own_bytes, equation_bytes, order_bytes, call_code, call_takes}
 use Rattle.lp_gen.specs.inner.Fitting.{misfits_of}
 use Rattle.lp_gen.specs.inner.Saying.{equation_by, order_by, on_two_by, own_by, own_numbered}
 

@@ -4,8 +4,7 @@ use Rattle.std.specs.Prelude.{if◌then◌else◌, slice_get}
 use Rattle.lp_calculus.specs.Types.{Ty}
 use Rattle.lp_calculus.specs.Term.{Term, Atom, index, atom, abs, app, constant, integer, text, eigen, logic, param}
 use Rattle.lp_calculus.specs.Typing.{o_type}
-use Rattle.lp_gen.specs.inner.Reading.{from_of, to_of}
-use Rattle.lp_gen.specs.inner.Listing.{make_variable, from_register, Seen, Around, level_in, at_level, set_level, Listed, one_step, found_listed, level_listed, bound_listed, atom_listed, listed, headed}
+use Rattle.lp_gen.specs.Steps.{from_of, to_of, make_variable, from_register, Seen, Around, level_in, at_level, set_level, Listed, one_step, found_listed, level_listed, bound_listed, atom_listed, listed, headed}
 use Rattle.lp_gen.specs.inner.TermLaw.{AreSet}
 
 abbrev around_by : Listed → Around

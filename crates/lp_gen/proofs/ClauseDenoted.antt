@@ -13,7 +13,7 @@ use Rattle.lp_code.specs.Steps.{Later, own_types, own_variables}
 use Rattle.lp_code.specs.Written.{written_goals}
 use Rattle.lp_code.specs.Denote.{Done, run, from_zero, started, first_state, key_is, first_key, has_right_key, clause_of, clause_ran, denoted, broken_by_record, head_term, variable_types}
 use Rattle.lp_gen.specs.inner.Running.{TypesStand}
-use Rattle.lp_gen.specs.inner.Listing.{Around}
+use Rattle.lp_gen.specs.Steps.{Around}
 use Rattle.lp_gen.specs.inner.TermLaw.{AllLoose, with_variables}
 use Rattle.lp_gen.specs.inner.Bodies.{AreThrough, bare_goals, bare_clauses, said_goals, said_clauses}
 use Rattle.lp_gen.proofs.Bares.{written_same}

@@ -14,7 +14,7 @@ use Rattle.lp_code.specs.States.{State, Home}
 use Rattle.lp_code.specs.Denote.{heads, is_known_head, head_passes, is_all_variable}
 use Rattle.lp_gen.specs.Sources.{types_by, IsKnownType}
 use Rattle.lp_gen.specs.declared.emitter.Emitter.{Emitter}
-use Rattle.lp_gen.specs.inner.Listing.{Seen, Around, level_in, at_level}
+use Rattle.lp_gen.specs.Steps.{Seen, Around, level_in, at_level}
 use Rattle.lp_gen.specs.inner.TermLaw.{IsSeen, AllLoose, level_term, with_variables}
 use Rattle.lp_gen.specs.inner.Heading.{PredicateStands, predicate_of, level_register, seen_register, IsPredicate, IsHeadAtom}
 use Rattle.lp_gen.specs.inner.BodyLaw.{HeadFits}

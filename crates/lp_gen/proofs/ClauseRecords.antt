@@ -24,7 +24,8 @@ use Rattle.lp_gen.specs.declared.plan.Part.{Part}
 use Rattle.lp_gen.specs.declared.plan.Origin.{Origin}
 use Rattle.lp_gen.specs.declared.plan.Origin.TheVariants as origin
 use Rattle.lp_gen.specs.declared.tables.Tables.{Tables}
-use Rattle.lp_gen.specs.inner.Listing.{Seen, Around, around_of, at_level, constant_function, level_in}
+use Rattle.lp_gen.specs.Steps.{Seen, Around, at_level, constant_function, level_in}
+use Rattle.lp_gen.specs.inner.Listing.{around_of}
 use Rattle.lp_gen.specs.inner.TermLaw.{with_variables, AllLoose}
 use Rattle.lp_gen.specs.inner.Written.{AreAsked}
 use Rattle.lp_gen.specs.inner.Bodies.{new_level, HasLevel, bare_goals, bare_clauses, said_goals, said_clauses, AreThrough}
@@ -37,10 +38,10 @@ use Rattle.lp_gen.specs.inner.Heading.{PredicateStands, IsHeadAtom}
 use Rattle.lp_code.specs.Denote.{Done, run, from_zero, started as started_with, has_neck, ends_with_proceed, heads, is_known_head, head_passes, is_all_variable, first_key, head_term, variable_types, first_state, is_named, denoted, key_is, nothing_captured, query_ran}
 use Rattle.lp_gen.specs.declared.plan.Assumption.{Assumption}
 use Rattle.lp_gen.specs.inner.Planned.{clauses_length, GoalsHave, IsAtLevel, AreNamed}
-use Rattle.lp_gen.specs.inner.Recorded.{MayRun, HeadWritten, FrontWritten, RecordWritten, key_in, first_key_of, HasKey, head_in}
+use Rattle.lp_gen.specs.inner.Recorded.{index_types, MayRun, HeadWritten, FrontWritten, RecordWritten, key_in, first_key_of, HasKey, head_in}
 use Rattle.lp_gen.proofs.BodySaid.{TellClauses}
 use Rattle.lp_gen.proofs.BodyParts.{loose_at}
-use Rattle.lp_gen.proofs.OwnPlaces.{index_types, own_register, placed_at, placed_back, at_reverse}
+use Rattle.lp_gen.proofs.OwnPlaces.{own_register, placed_at, placed_back, at_reverse}
 use Rattle.lp_gen.proofs.RecordBegins.{Outside, Inside, own_term, old_term, old_variable, all_seen, all_known, behind_held}
 use Rattle.std.proofs.lemmas.Bool.{ltb-true, eqb-true, eq-eqb}
 use Rattle.lp_calculus.specs.Spine.{arguments}

@@ -4,11 +4,12 @@ use Rattle.lp_calculus.specs.Types.{Ty}
 use Rattle.lp_model.specs.Flat.{Goal, Goals, Clauses, Atomic, Cut, Either, Exists, Forall, Assume, Not, no_goals, goals}
 use Rattle.lp_code.specs.declared.instruction.Instr.{Instr}
 use Rattle.lp_code.specs.Rules.{names_of, names_in}
-use Rattle.lp_gen.specs.inner.Listing.{Around}
+use Rattle.lp_gen.specs.Sources.{ends_list}
+use Rattle.lp_gen.specs.Steps.{Around}
 use Rattle.lp_gen.specs.inner.Bodies.{pushed, new_level}
 use Rattle.lp_gen.specs.inner.GoalCode.{quantified, numbers, GoalCode, GoalsCode}
 use Rattle.lp_gen.specs.inner.OpenGoals.{plain_goal, plain_goals}
-use Rattle.lp_gen.specs.inner.Planned.{clauses_length, goal_records, goals_records, GoalHas, GoalsHave}
+use Rattle.lp_gen.specs.inner.Planned.{clauses_length, goal_records, goals_records, level_behind, levels_behind, GoalHas, GoalsHave}
 use Rattle.lp_gen.proofs.BodySteps.{push_level}
 
 -- what is written in goals matters to none of this
@@ -28,6 +29,20 @@ mutual
   plain_records (goals g gs) = λ i. plain_goal_records g i + plain_records gs i
 
 mutual
+  plain_after : (d : ℕ) (g : Goal) → level_behind d (plain_goal g) ≡ level_behind d g
+  plain_after d (Atomic t) = refl
+  plain_after d Cut = refl
+  plain_after d (Either gs hs) = refl
+  plain_after d (Exists T gs) = plain_behind (suc d) gs
+  plain_after d (Forall T gs) = refl
+  plain_after d (Assume w cs gs) = refl
+  plain_after d (Not w gs) = refl
+
+  plain_behind : (d : ℕ) (gs : Goals) → levels_behind d (plain_goals gs) ≡ levels_behind d gs
+  plain_behind d no_goals = refl
+  plain_behind d (goals g gs) = plain_behind (level_behind d (plain_goal g)) gs ∙ ap (λ n. levels_behind n gs) (plain_after d g)
+
+mutual
   plain_goal_has : (D : ℕ → ℕ → Clauses → Type 0) (q d : ℕ) (g : Goal) → GoalHas D q d g → GoalHas D q d (plain_goal g)
   plain_goal_has D q d (Atomic t) x = tt
   plain_goal_has D q d Cut x = tt
@@ -39,7 +54,11 @@ mutual
 
   pub plain_have : (D : ℕ → ℕ → Clauses → Type 0) (q d : ℕ) (gs : Goals) → GoalsHave D q d gs → GoalsHave D q d (plain_goals gs)
   plain_have D q d no_goals x = tt
-  plain_have D q d (goals g gs) x = (plain_goal_has D q d g x.0, subst (λ n. GoalsHave D (q + n) d (plain_goals gs)) (sym (plain_goal_records g)) (plain_have D (q + goal_records g) d gs x.1))
+  plain_have D q d (goals g gs) x = (
+    plain_goal_has D q d g x.0,
+    subst (λ m. GoalsHave D (q + goal_records (plain_goal g)) m (plain_goals gs)) (sym (plain_after d g))
+        (subst (λ n. GoalsHave D (q + n) (level_behind d g) (plain_goals gs)) (sym (plain_goal_records g)) (plain_have D (q + goal_records g) (level_behind d g) gs x.1)),
+  )
 
 -- numbers one after the other
 pub numbers_both : (q n m : ℕ) → numbers q n ++ numbers (q + n) m ≡ numbers q (n + m)
@@ -52,6 +71,16 @@ numbers_both q (ℕ.suc n) m =
 pub names_both : (xs ys : List Instr) → names_in (xs ++ ys) ≡ names_in xs ++ names_in ys
 names_both [] ys = refl
 names_both (i ∷ is) ys = ap (λ l. names_of i ++ l) (names_both is ys) ∙ sym (Rattle.std.proofs.Common.append_assoc (names_of i) (names_in is) (names_in ys))
+
+-- where a `sigma` ends its list, as many variables are around what follows a goal
+same_depth : (D : ℕ → ℕ → Clauses → Type 0) (q d : ℕ) (g : Goal) (gs : Goals) → ends_list g gs → GoalsHave D q (level_behind d g) gs → GoalsHave D q d gs
+same_depth D q d (Atomic t) gs last x = x
+same_depth D q d Cut gs last x = x
+same_depth D q d (Either hs ks) gs last x = x
+same_depth D q d (Exists T hs) gs last x = subst (GoalsHave D q d) (sym last) tt
+same_depth D q d (Forall T hs) gs last x = x
+same_depth D q d (Assume w cs hs) gs last x = x
+same_depth D q d (Not w hs) gs last x = x
 
 module _ (P : Around → (records levels : List ℕ) → Clauses → Type 0) (K : ℕ → List Ty → Ty) (v : ℕ)
     (long : (a : Around) (ns ls : List ℕ) (cs : Clauses) → P a ns ls cs → length ns ≡ clauses_length cs) where
@@ -136,7 +165,7 @@ module _ (P : Around → (records levels : List ℕ) → Clauses → Type 0) (K 
             ks,
             goal_mapped a n m k l q o g js le has.0 x,
             goals_mapped a m n' l k' o q' gs ks (omega (arith, le, at))
-                (subst (λ z. GoalsHave D z (new_level a) gs) (sym at) has.1) y,
+                (subst (λ z. GoalsHave D z (new_level a) gs) (sym at) (same_depth D (q + goal_records g) (new_level a) g gs last has.1)) y,
             last,
             e,
           )

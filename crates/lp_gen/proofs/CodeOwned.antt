@@ -3,7 +3,7 @@ use Rattle.std.proofs.Common.{◌≡◌, ◌∙◌, ◌≤◌, ℕ, List, [], �
 use Rattle.std.specs.Prelude.{nat_le}
 use Rattle.std.proofs.lemmas.Bool.{leb-true, leb-false}
 use Rattle.lp_code.specs.declared.instruction.Instr.{Instr}
-use Rattle.lp_gen.specs.inner.Listing.{Seen, Around, at_level, set_level}
+use Rattle.lp_gen.specs.Steps.{Seen, Around, at_level, set_level}
 use Rattle.lp_gen.specs.inner.Owned.{makes, AreStarted, MakesOwn}
 use Rattle.lp_gen.specs.inner.Written.{CodeOwns}
 use Rattle.lp_gen.proofs.OwnSet.{makes_both}

@@ -15,7 +15,7 @@ use Rattle.lp_term.specs.Nodes.{Nodes, type_tree}
 use Rattle.lp_code.specs.Symbolic.{Tables}
 use Rattle.lp_gen.specs.Sources.{AreKnownSchemes, IsKnownType, AreKnownTypes}
 use Rattle.lp_gen.specs.Contract.{tables_of}
-use Rattle.lp_gen.specs.inner.Listing.{as_asked, scheme_body, standard_function, declared_function, declared_type, constant_function}
+use Rattle.lp_gen.specs.Steps.{as_asked, scheme_body, standard_function, declared_function, declared_type, constant_function}
 use Rattle.lp_gen.specs.inner.TermLaw.{Asks, AsksConstants}
 use Rattle.lp_gen.proofs.LooseOf.{none_some, some_same}
 use Rattle.lp_gen.proofs.TermListed.{asks_same}

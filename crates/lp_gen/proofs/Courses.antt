@@ -26,9 +26,10 @@ use Rattle.lp_gen.specs.declared.term_steps.TermStep.TheVariants as step
 use Rattle.lp_gen.specs.declared.listing.Lists.{Lists}
 use Rattle.lp_gen.specs.declared.listing.Task.{Task}
 use Rattle.lp_gen.specs.declared.listing.Task.TheVariants as on
-use Rattle.lp_gen.specs.inner.Reading.{read, from_of, to_of}
-use Rattle.lp_gen.specs.inner.Listing.{Step, plain_step, make_constant, make_index, apply_last, abstract_last, Seen, seen, Around, around_of, level_below, level_in, marked, set_level}
-use Rattle.lp_gen.specs.inner.Listing.{Listed, one_step, level_listed, bound_listed, index_listed, node_listed, term_function, head_type, read_function, Headed, as_head, with_argument, applied, listed, headed, with_arguments}
+use Rattle.lp_gen.specs.Steps.{from_of, to_of, Step, make_constant, make_index, apply_last, abstract_last, Seen, Around, level_below, level_in, marked, set_level, Listed, one_step, level_listed, bound_listed, index_listed, head_type, Headed, as_head, with_argument, applied, listed, headed}
+use Rattle.lp_gen.specs.inner.Reading.{read}
+use Rattle.lp_gen.specs.inner.Listing.{plain_step, seen, around_of}
+use Rattle.lp_gen.specs.inner.Listing.{node_listed, term_function, read_function, with_arguments}
 use Rattle.lp_gen.specs.inner.Tasks.{Course, course, behind, with_step, all_but_first, without_arguments, of_head, act, done, Adds}
 use Rattle.lp_gen.proofs.TypeWorks.{map_length}
 

@@ -1,8 +1,8 @@
 -- So many variables that are bound, as a number below 2^64 or none.
-use Rattle.std.proofs.Common.{◌≡◌, ◌∙◌, ◌≤◌, ◌<◌, ◌≢◌, ℕ, ◌+◌, ◌^◌, nat_lt, Bool, true, false, Option, Some, None, if◌then◌else◌, ap, refl, sym, subst, arith}
+use Rattle.std.proofs.Common.{◌≡◌, ◌≤◌, ◌<◌, ℕ, ◌^◌, nat_lt, Bool, true, false, Some, None, if◌then◌else◌, ap, refl, arith}
 use Rattle.std.proofs.lemmas.Bool.{lt-ltb, ltb-true, ltb-false}
 use Rattle.lp_lemmas.proofs.Options.{one_value}
-use Rattle.lp_gen.specs.inner.Capturing.{depth_of, IsDepth}
+use Rattle.lp_gen.specs.inner.Capturing.{IsDepth}
 
 pub is_depth : (d : ℕ) → d < 2 ^ 64 → IsDepth d (Some d)
 is_depth d lt = ap (λ c. if c then Some d else None) (lt-ltb d (2 ^ 64) lt)

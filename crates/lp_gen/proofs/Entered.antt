@@ -6,7 +6,8 @@ use Rattle.lp_term.specs.Nodes.{Nodes, type_tree}
 use Rattle.lp_term.specs.declared.node.TypeId.{TypeId}
 use Rattle.lp_gen.specs.declared.emitter.Emitter.{Emitter}
 use Rattle.lp_gen.specs.declared.environment.Environment.{Environment}
-use Rattle.lp_gen.specs.inner.Listing.{Seen, Around, around_of}
+use Rattle.lp_gen.specs.Steps.{Seen, Around}
+use Rattle.lp_gen.specs.inner.Listing.{around_of}
 use Rattle.lp_gen.specs.inner.Bodies.{pushed}
 use Rattle.lp_gen.specs.inner.Entering.{unmade, clause_own, query_own, behind, types_at, QueryEntered}
 use Rattle.lp_gen.proofs.TypeWorks.{map_length}

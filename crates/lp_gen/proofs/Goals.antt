@@ -12,7 +12,7 @@ use Rattle.lp_gen.specs.inner.Sizes.{goals_weigh, goal_weighs_at, no_weight, goa
 pub either_weighs : (l r : Vec Goal Global) → goal_weighs (code.Either l r) ≡ 2 + goals_weigh (map goal_weighs l.items) + goals_weigh (map goal_weighs r.items)
 either_weighs l r = ap goal_weighs (sym (rolls-Either l r)) ∙ fold-roll-Goal ℕ ℕ goal_weighs_at no_weight (Goal-F.Either l r)
 
-pub some_weighs : (T : TypeId) (l : Vec Goal Global) → goal_weighs (code.Some T l) ≡ 1 + goals_weigh (map goal_weighs l.items)
+pub some_weighs : (T : TypeId) (l : Vec Goal Global) → goal_weighs (code.Some T l) ≡ goals_weigh (map goal_weighs l.items)
 some_weighs T l = ap goal_weighs (sym (rolls-Some T l)) ∙ fold-roll-Goal ℕ ℕ goal_weighs_at no_weight (Goal-F.Some T l)
 
 pub all_weighs : (T : TypeId) (l : Vec Goal Global) → goal_weighs (code.All T l) ≡ 1 + goals_weigh (map goal_weighs l.items)

@@ -7,7 +7,7 @@ use Rattle.lp_model.specs.Flat.{Goal, Goals, Clauses, Atomic, Cut, Either, Exist
 use Rattle.lp_code.specs.declared.instruction.Instr.{Instr}
 use Rattle.lp_code.specs.declared.instruction.Instr.TheVariants as on
 use Rattle.lp_code.specs.Length.{length_of}
-use Rattle.lp_gen.specs.inner.Listing.{Around}
+use Rattle.lp_gen.specs.Steps.{Around}
 use Rattle.lp_gen.specs.inner.Bodies.{pushed}
 use Rattle.lp_gen.specs.inner.GoalCode.{quantified, KindCode, GoalCode, GoalsCode}
 use Rattle.lp_gen.proofs.Bytes.{some_length}

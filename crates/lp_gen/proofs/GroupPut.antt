@@ -14,7 +14,7 @@ use Rattle.lp_gen.specs.declared.plan.Origin.{Origin}
 use Rattle.lp_gen.specs.declared.plan.Part.{Part}
 use Rattle.lp_gen.specs.declared.plan.Origin.TheVariants as origin
 use Rattle.lp_gen.specs.declared.tables.Tables.{Tables}
-use Rattle.lp_gen.specs.inner.Listing.{constant_function}
+use Rattle.lp_gen.specs.Steps.{constant_function}
 use Rattle.lp_gen.specs.inner.Recorded.{RecordWritten}
 use Rattle.lp_gen.specs.inner.Planning.{ArePlanned, AllCaptured}
 use Rattle.lp_gen.specs.inner.Groups.{Kept, IsStartOf, AllWritten, IsGroup, AreGroups}

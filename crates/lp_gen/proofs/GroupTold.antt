@@ -32,14 +32,15 @@ use Rattle.lp_gen.specs.declared.plan.Due.{Due}
 use Rattle.lp_gen.specs.declared.plan.Part.{Part}
 use Rattle.lp_gen.specs.declared.plan.Origin.TheVariants as origin
 use Rattle.lp_gen.specs.declared.tables.Tables.{Tables}
-use Rattle.lp_gen.specs.inner.Listing.{Seen, seen, around_of, constant_function}
+use Rattle.lp_gen.specs.Steps.{Seen, constant_function}
+use Rattle.lp_gen.specs.inner.Listing.{seen, around_of}
 use Rattle.lp_gen.specs.inner.Written.{AreAsked}
 use Rattle.lp_gen.specs.inner.GoalCode.{numbers}
 use Rattle.lp_gen.specs.inner.Entering.{types_at}
 use Rattle.lp_gen.specs.inner.OpenGoals.{EndsGoal, EndsGoals}
 use Rattle.lp_gen.specs.inner.BodyCode.{Suppositions, started_at, AreAllSet, HoldStarts, starts_all}
 use Rattle.lp_gen.specs.inner.Recorded.{RecordWritten, own_count, FrontWritten, HeadWritten, head_in}
-use Rattle.lp_gen.specs.inner.Planned.{clauses_length, goal_records, goals_records, GoalHas, GoalsHave, DeepGoal, DeepGoals, DeepClauses, IsAssumption, IsAtLevel, AreCaptured}
+use Rattle.lp_gen.specs.inner.Planned.{clauses_length, goal_records, goals_records, level_behind, GoalHas, GoalsHave, DeepGoal, DeepGoals, DeepClauses, IsAssumption, IsAtLevel, AreCaptured}
 use Rattle.lp_gen.specs.inner.Planning.{AllCaptured, Extends, HoldClauses, AssumptionAt, PartPlanned, AllPlanned, ArePlanned, body_of}
 use Rattle.lp_gen.specs.inner.Groups.{IsStartOf, AllWritten}
 use Rattle.lp_gen.proofs.PlanWalked.{extends_same, extends_at, get_behind}
@@ -49,10 +50,10 @@ use Rattle.lp_gen.proofs.PartsTell.{program_told, query_told}
 use Rattle.lp_gen.proofs.RecordNamed.{names}
 use Rattle.lp_gen.proofs.NamedNumbers.{member_left, member_right, member_cases, member_numbers, numbers_member, named_one_more}
 
-from_none : {X : Type 0} (xs : List X) (j : ℕ) → slice_get xs (0 + j) ≡ slice_get xs j
+pub from_none : {X : Type 0} (xs : List X) (j : ℕ) → slice_get xs (0 + j) ≡ slice_get xs j
 from_none xs j = let z : 0 + j ≡ j = omega arith in ap (slice_get xs) z
 
-no_start : {X : Type 0} (x : X) → ◌≡◌ {A = Option X} None (Some x) → ⊥
+pub no_start : {X : Type 0} (x : X) → ◌≡◌ {A = Option X} None (Some x) → ⊥
 no_start x e = cc
 
 -- a query has no head
@@ -170,25 +171,25 @@ mutual
   goal_have_map D E f q d (Assume w cs gs) x = (f q d cs x.0, have_map D E f (q + clauses_length cs) d gs x.1)
   goal_have_map D E f q d (Not w gs) x = have_map D E f q d gs x
 
-  have_map : (D E : ℕ → ℕ → Clauses → Type 0) → ((q d : ℕ) (cs : Clauses) → D q d cs → E q d cs) → (q d : ℕ) (gs : Goals) → GoalsHave D q d gs → GoalsHave E q d gs
+  pub have_map : (D E : ℕ → ℕ → Clauses → Type 0) → ((q d : ℕ) (cs : Clauses) → D q d cs → E q d cs) → (q d : ℕ) (gs : Goals) → GoalsHave D q d gs → GoalsHave E q d gs
   have_map D E f q d no_goals x = tt
-  have_map D E f q d (goals g gs) x = (goal_have_map D E f q d g x.0, have_map D E f (q + goal_records g) d gs x.1)
+  have_map D E f q d (goals g gs) x = (goal_have_map D E f q d g x.0, have_map D E f (q + goal_records g) (level_behind d g) gs x.1)
 
 -- clauses by their places
-clause_found : (b : Nodes) (cs : List code.Clause) (j : ℕ) (c : Clause) → clause_at (clauses_of b cs) j ≡ Some c → (d : code.Clause) × (slice_get cs j ≡ Some d) × (clause_of b d ≡ c)
+pub clause_found : (b : Nodes) (cs : List code.Clause) (j : ℕ) (c : Clause) → clause_at (clauses_of b cs) j ≡ Some c → (d : code.Clause) × (slice_get cs j ≡ Some d) × (clause_of b d ≡ c)
 clause_found b [] j c e = absurd (no_start c e)
 clause_found b (d ∷ ds) zero c e = (d, refl, cc)
 clause_found b (d ∷ ds) (suc j) c e = clause_found b ds j c e
 
-there_is : {X : Type 0} (xs : List X) (i : ℕ) → i < length xs → (x : X) × (slice_get xs i ≡ Some x)
+pub there_is : {X : Type 0} (xs : List X) (i : ℕ) → i < length xs → (x : X) × (slice_get xs i ≡ Some x)
 there_is [] i lt = absurd (omega (arith, lt))
 there_is (x ∷ xs) zero lt = (x, refl)
 there_is (x ∷ xs) (suc i) lt = there_is xs i (omega (arith, lt))
 
-one_only : {X : Type 0} (o : Option X) (x y : X) → o ≡ Some x → o ≡ Some y → x ≡ y
+pub one_only : {X : Type 0} (o : Option X) (x y : X) → o ≡ Some x → o ≡ Some y → x ≡ y
 one_only o x y e f = cc
 
-three : (n m : ℕ) → (n < m → ⊥) → (m < n → ⊥) → n ≡ m
+pub three : (n m : ℕ) → (n < m → ⊥) → (m < n → ⊥) → n ≡ m
 three n m f g = go (nat_lt n m) refl (nat_lt m n) refl
   where
     go : (a : Bool) → nat_lt n m ≡ a → (c : Bool) → nat_lt m n ≡ c → n ≡ m
@@ -217,19 +218,19 @@ mutual
   deep_ends no_goals x = tt
   deep_ends (goals g gs) x = (deep_end g x.0, x.1, deep_ends gs x.2)
 
-All-at : {X : Type 0} (P : X → Type 0) (ls : List X) (n : ℕ) (x : X) → All P ls → slice_get ls n ≡ Some x → P x
+pub All-at : {X : Type 0} (P : X → Type 0) (ls : List X) (n : ℕ) (x : X) → All P ls → slice_get ls n ≡ Some x → P x
 All-at P ls n x a at = subst P (get_or_from_slice_get ls n x x at) (All-get_or P ls n x (slice_get_within ls n x at) a)
 
 -- the starts of assumptions
-abbrev start_at : {S : Type 0} → Nodes → Option (IndexMap ℕ Variable S) → ℕ → Option Seen
+abbrev pub start_at : {S : Type 0} → Nodes → Option (IndexMap ℕ Variable S) → ℕ → Option Seen
 start_at b None l = None
 start_at b (Some m) l = started_at b m l
 
-abbrev count_at : {S : Type 0} → Option (IndexMap ℕ Variable S) → ℕ
+abbrev pub count_at : {S : Type 0} → Option (IndexMap ℕ Variable S) → ℕ
 count_at None = 0
 count_at (Some m) = index_map_len m
 
-abbrev clauses_in_place : Nodes → Option Assumption → Clauses
+abbrev pub clauses_in_place : Nodes → Option Assumption → Clauses
 clauses_in_place b None = no_clauses
 clauses_in_place b (Some x) = clauses_of b x.clauses.now
 

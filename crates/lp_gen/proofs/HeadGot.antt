@@ -21,10 +21,9 @@ use Rattle.lp_code.specs.Steps.{Later, head_built}
 use Rattle.lp_code.specs.Rules.{head_count, has_none, is_passed}
 use Rattle.lp_gen.specs.declared.emitter.Emitter.{Emitter}
 use Rattle.lp_gen.specs.Sources.{IsKnownType}
-use Rattle.lp_gen.specs.inner.Reading.{from_of, to_of}
+use Rattle.lp_gen.specs.Steps.{from_of, to_of, Seen, Around, at_level}
 use Rattle.lp_gen.specs.inner.Running.{TypesStand, TermsStand, HasRoom, IsTypePut}
 use Rattle.lp_gen.specs.inner.Saying.{TypeGot}
-use Rattle.lp_gen.specs.inner.Listing.{Seen, Around, at_level}
 use Rattle.lp_gen.specs.inner.TermLaw.{SameSides, Asks, Standing, as_set, with_variables, SameAround}
 use Rattle.lp_gen.specs.inner.Written.{IsWell, AreWell, left_by, wholes}
 use Rattle.lp_gen.specs.inner.Doing.{Does}

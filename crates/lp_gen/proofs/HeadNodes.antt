@@ -14,12 +14,11 @@ use Rattle.lp_term.specs.declared.node.TermNode.TheVariants as node
 use Rattle.lp_code.specs.declared.record.RecordHead.{RecordHead}
 use Rattle.lp_code.specs.declared.record.RecordHead.TheVariants.{Const, Register}
 use Rattle.lp_gen.specs.declared.emitter.Emitter.{Emitter}
-use Rattle.lp_gen.specs.inner.Reading.{from_of, to_of}
+use Rattle.lp_gen.specs.Steps.{from_of, to_of, Around, set_level, head_type, first_place}
 use Rattle.lp_gen.specs.inner.Running.{AreTypesPut, IsTypePut}
 use Rattle.lp_gen.specs.inner.Saying.{ConstantGot, TypeGot}
-use Rattle.lp_gen.specs.inner.Listing.{Around, set_level, head_type}
 use Rattle.lp_gen.specs.inner.Written.{left_by}
-use Rattle.lp_gen.specs.inner.Heading.{VariableGot, first_place, ArgumentGot, ArgumentsGot, TypesGot, predicate_of, HeadMatched}
+use Rattle.lp_gen.specs.inner.Heading.{VariableGot, ArgumentGot, ArgumentsGot, TypesGot, predicate_of, HeadMatched}
 use Rattle.lp_gen.proofs.TypeWorks.{map_length}
 use Rattle.lp_gen.proofs.Courses.{mapped_types}
 use Rattle.lp_gen.proofs.AtomWritten.{no_constant_node}

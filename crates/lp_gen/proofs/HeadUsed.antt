@@ -1,9 +1,9 @@
 -- What the head of a record takes: its types and arguments, one after the other.
-use Rattle.std.proofs.Common.{◌≡◌, ◌≢◌, ◌∙◌, ℕ, ℤ, zero, suc, ◌+◌, ◌*◌, ◌<◌, ◌≤◌, List, [], ◌∷◌, ◌++◌, length, take, map, Bor, Option, Some, None, ap, refl, sym, subst, arith}
+use Rattle.std.proofs.Common.{◌≡◌, ◌≢◌, ◌∙◌, ℕ, ℤ, suc, ◌+◌, ◌*◌, ◌<◌, ◌≤◌, List, [], ◌∷◌, ◌++◌, length, take, map, Bor, Some, None, ap, refl, sym, subst, arith}
 use Rattle.std.specs.Prelude.{get_or}
 use Rattle.std.proofs.lemmas.List.{map-append, take_more, length-take-le}
 use Rattle.lp_calculus.specs.Types.{Ty}
-use Rattle.lp_calculus.specs.Term.{Term, Atom, index, atom, abs, app, apply, constant, integer, text, eigen, logic, param}
+use Rattle.lp_calculus.specs.Term.{Term, index, atom, abs, app, apply, constant, integer, text, eigen, logic, param}
 use Rattle.lp_calculus.specs.Spine.{head_of, arguments}
 use Rattle.lp_term.specs.Spine.{IsNoApplication}
 use Rattle.lp_term.specs.Node.{TermBelow}
@@ -15,20 +15,17 @@ use Rattle.lp_term.specs.declared.node.TermNode.TheVariants as node
 use Rattle.lp_gen.specs.declared.emitter.Emitter.{Emitter}
 use Rattle.lp_gen.specs.declared.fault.RecordRefusal.{RecordRefusal}
 use Rattle.lp_gen.specs.declared.fault.RecordRefusal.TheVariants as refusal
-use Rattle.lp_gen.specs.Limits.{past}
-use Rattle.lp_gen.specs.Registers.{Amount, nothing, both, plain_code, type_takes, all_take, text_length, term_takes, behind_term, built_takes, term_got, atom_got, term_left, atom_left, argument_by, argument_takes, left_by_first, behind_argument, head_arguments_take, behind_arguments, head_types_take, predicate_types_take, atom_types_take, head_takes, behind_head}
+use Rattle.lp_gen.specs.Steps.{first_place, Around, set_level, head_type, from_of, to_of}
+use Rattle.lp_gen.specs.Registers.{past, Amount, nothing, both, plain_code, type_takes, all_take, behind_term, built_takes, term_got, term_left, argument_by, argument_takes, left_by_first, behind_argument, head_arguments_take, behind_arguments, head_types_take, predicate_types_take, head_takes, behind_head}
 use Rattle.lp_gen.specs.inner.Fitting.{IsRefused}
-use Rattle.lp_gen.specs.inner.Heading.{first_place}
-use Rattle.lp_gen.specs.inner.Listing.{Around, set_level, head_type}
-use Rattle.lp_gen.specs.inner.Reading.{from_of, to_of}
-use Rattle.lp_gen.specs.inner.Using.{Uses, for_misfits, Lacks, room, memory, AtMost}
+use Rattle.lp_gen.specs.inner.Using.{Uses, for_misfits, Lacks, room, memory}
 use Rattle.lp_gen.specs.inner.Written.{left_by}
-use Rattle.lp_gen.proofs.AtomWritten.{no_constant_node, head_itself, head_apply, arguments_is}
+use Rattle.lp_gen.proofs.AtomWritten.{head_itself, head_apply, arguments_is}
 use Rattle.lp_gen.proofs.Courses.{mapped_types}
 use Rattle.lp_gen.proofs.LimitsLeft.{past_over, past_within}
 use Rattle.lp_gen.proofs.TypeWorks.{map_length}
 use Rattle.lp_gen.proofs.TermsUsed.{both_nothing, nothing_both, both_joined, both_first}
-use Rattle.lp_gen.proofs.Using.{part_from, same_amount, uses_nothing, uses_both, uses_same, lacks_behind}
+use Rattle.lp_gen.proofs.Using.{part_from, same_amount, uses_both, uses_same, lacks_behind}
 
 -- a number that has room, or has not
 

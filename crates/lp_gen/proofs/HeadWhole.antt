@@ -17,7 +17,7 @@ use Rattle.lp_code.specs.Steps.{constant_of, built_of, head_built}
 use Rattle.lp_code.specs.Rules.{count_of, head_count, scheme_count, has_count, breaks_head}
 use Rattle.lp_gen.specs.declared.emitter.Emitter.{Emitter}
 use Rattle.lp_gen.specs.inner.Running.{TermsStand}
-use Rattle.lp_gen.specs.inner.Listing.{Seen, Around, at_level, level_in, seen_in, type_or, head_type}
+use Rattle.lp_gen.specs.Steps.{Seen, Around, at_level, level_in, seen_in, type_or, head_type}
 use Rattle.lp_gen.specs.inner.TermLaw.{Asks, Standing, with_variables}
 use Rattle.lp_gen.specs.inner.Written.{AreWell, wholes}
 use Rattle.lp_gen.specs.inner.Heading.{ArgumentsGot, TypesGot, seen_register, level_register, predicate_of, IsPredicate, HeadMatched}

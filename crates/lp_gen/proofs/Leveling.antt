@@ -1,5 +1,5 @@
 -- How many variables are around the goals of a plan, and that a record that fits is not refused.
-use Rattle.std.proofs.Common.{◌≡◌, ◌∙◌, ◌≤◌, ◌<◌, ℕ, zero, suc, ◌+◌, ◌-◌, ◌*◌, List, [], ◌∷◌, ◌++◌, All, append_assoc, length, map, Bor, Vec, Global, Option, Some, None, ap, refl, sym, subst, arith, inl, inr, ◌⊎◌, ⊎_elim}
+use Rattle.std.proofs.Common.{◌≡◌, ◌∙◌, ◌≤◌, ◌<◌, ℕ, zero, suc, ◌+◌, ◌-◌, ◌*◌, List, [], ◌∷◌, ◌++◌, All, append_assoc, length, Bor, Vec, Global, Some, ap, refl, sym, subst, arith, ⊎_elim}
 use Rattle.std.specs.Prelude.{slice_get}
 use Rattle.std.proofs.lemmas.List.Elements.{All-nil, All-cons, All-append, All-head, All-tail}
 use Rattle.lp_term.specs.Nodes.{Nodes, tree, type_tree}
@@ -8,8 +8,8 @@ use Rattle.lp_term.specs.declared.node.TypeId.{TypeId}
 use Rattle.lp_model.specs.declared.clause.Goal as code
 use Rattle.lp_model.specs.declared.clause.Goal.{Goal}
 use Rattle.lp_model.specs.declared.clause.Clause.{Clause}
-use Rattle.lp_model.specs.Flat.{Goal as FlatGoal, Atomic, Cut, Either, Exists, Forall, Assume, Not, Clauses, clause, clauses, no_clauses}
-use Rattle.lp_model.specs.Flattened.{goal_of, goals_of, clause_of, clauses_of}
+use Rattle.lp_model.specs.Flat.{Goal as FlatGoal, Atomic, Cut, Either, Exists, Forall, clauses}
+use Rattle.lp_model.specs.Flattened.{goal_of, goals_of, clauses_of}
 use Rattle.lp_base.specs.declared.limit.Limit.TheVariants as limit
 use Rattle.lp_gen.specs.declared.fault.GenRefusal.TheVariants as told
 use Rattle.lp_gen.specs.inner.Limiting.{IsOfPlan}
@@ -22,7 +22,7 @@ use Rattle.lp_gen.specs.declared.plan.Task.{Task}
 use Rattle.lp_gen.specs.declared.plan.Task.TheVariants as task
 use Rattle.lp_gen.specs.declared.plan.Origin.{Origin}
 use Rattle.lp_gen.specs.declared.plan.Origin.TheVariants as origin
-use Rattle.lp_gen.specs.inner.Planning.{AreDue, IsDue, IsAssumed, Todo, due_goals, due_end, due_level, todo_of, todos, body_of}
+use Rattle.lp_gen.specs.inner.Planning.{AreDue, IsAssumed, Todo, due_goals, due_end, todo_of, todos, body_of}
 use Rattle.lp_gen.specs.inner.Recorded.{own_count}
 use Rattle.lp_gen.specs.inner.Variables.{goal_binds, goals_bind, GoalFits, GoalsFit, ClausesFit, OriginFits, DueFits, todo_binds, TodoFits, AllLow, IsLeveled, StaysLeveled, Spreads, HasSpread, AreLow, IsFull, of_record}
 use Rattle.lp_lemmas.proofs.Options.{one_value}
@@ -41,7 +41,6 @@ pub low_more : (m n : ℕ) (ts : List Todo) → m ≤ n → AllLow m ts → AllL
 low_more m n [] le h = tt
 low_more m n (due_goals gs ∷ ts) le h = low_more m n ts le h
 low_more m n (due_end s l ∷ ts) le h = let x = h.0 in (omega (arith, x, le), low_more m n ts le h.1)
-low_more m n (due_level l ∷ ts) le h = let x = h.0 in (omega (arith, x, le), low_more m n ts le h.1)
 
 module _ (b : Nodes) where
   -- a goal gives way to what is to do for it, under `k` variables more
@@ -98,11 +97,11 @@ module _ (b : Nodes) where
       (omega (arith, x, v)) (omega (arith, v)) (λ m h le. (le, (le, h))) (omega (arith, p, q)) top total s)
 
   pub some_leveled : (n l l' : ℕ) (g : Goal) (T : TypeId) (list : Vec Goal Global) (ls : List Goal) (ts ts' : List Todo) → g ≡ code.Some T list → ls ≡ list.items → l' ≤ n + 65535 → l' ≡ l + 1 →
-      ts' ≡ due_goals ls ∷ due_level l ∷ ts → StaysLeveled b n l l' (due_goals (g ∷ []) ∷ ts) ts'
+      ts' ≡ due_goals ls ∷ ts → StaysLeveled b n l l' (due_goals (g ∷ []) ∷ ts) ts'
   some_leveled n l l' g T list ls ts ts' is a near v e top total s =
       let p = ap (λ k. goals_bind (goals_of b k)) a in
       subst (λ k. IsLeveled b n top total l' k) (sym e)
-      (gives_way n l l' 1 (Exists (type_tree b T.0) (goals_of b list.items)) g ts (due_goals ls ∷ due_level l ∷ ts) (ap (goal_of b) is ∙ some_is b T list) near v (λ m h le. (le, h))
+      (gives_way n l l' 1 (Exists (type_tree b T.0) (goals_of b list.items)) g ts (due_goals ls ∷ ts) (ap (goal_of b) is ∙ some_is b T list) near v (λ m h le. h)
       (omega (arith, p)) top total s)
 
   pub all_leveled : (n l l' : ℕ) (g : Goal) (T : TypeId) (list : Vec Goal Global) (ls : List Goal) (s1 : Step) (ts ts' : List Todo) → g ≡ code.All T list → ls ≡ list.items → l' ≤ n + 65535 → l' ≡ l + 1 →
@@ -156,7 +155,7 @@ module _ (b : Nodes) where
       subst (TodoFits b) (sym e) (subst (λ k. GoalsFit (goals_of b k)) (sym a) x.0.0, (subst (λ k. GoalsFit (goals_of b k)) (sym c) x.0.1, x.1)))
 
   pub some_spreads : (l : ℕ) (us us' : List Due) (g : Goal) (T : TypeId) (list : Vec Goal Global) (ls : List Goal) (ts ts' : List Todo) → us' ≡ us → g ≡ code.Some T list → ls ≡ list.items →
-      ts' ≡ due_goals ls ∷ due_level l ∷ ts → Spreads b l us us' (due_goals (g ∷ []) ∷ ts) ts'
+      ts' ≡ due_goals ls ∷ ts → Spreads b l us us' (due_goals (g ∷ []) ∷ ts) ts'
   some_spreads l us us' g T list ls ts ts' u is a e =
       none_due l us us' (due_goals (g ∷ []) ∷ ts) ts' u (λ h.
       let x = goal_fits g (Exists (type_tree b T.0) (goals_of b list.items)) ts (ap (goal_of b) is ∙ some_is b T list) h in
@@ -256,16 +255,8 @@ module _ (b : Nodes) where
       let z : IsLeveled b n top total l (due_end s1 k ∷ ts) = subst (λ (u : Task). IsLeveled b n top total l (todo_of u ∷ ts)) e s in
       record { near = z.ends_near.0; ends_near = z.ends_near.1; met = z.met; level_met = z.ends_met.0; ends_met = z.ends_met.1; rest = z.rest }
 
-  pub level_leveled : (n l k : ℕ) (t : Task) (ts : List Todo) → t ≡ task.Level k → StaysLeveled b n l k (todo_of t ∷ ts) ts
-  level_leveled n l k t ts e top total s =
-      let z : IsLeveled b n top total l (due_level k ∷ ts) = subst (λ (u : Task). IsLeveled b n top total l (todo_of u ∷ ts)) e s in
-      record { near = z.ends_near.0; ends_near = z.ends_near.1; met = z.met; level_met = z.ends_met.0; ends_met = z.ends_met.1; rest = z.rest }
-
   pub end_spreads : (l k : ℕ) (us : List Due) (t : Task) (s1 : Step) (ts : List Todo) → t ≡ task.End s1 k → Spreads b l us us (todo_of t ∷ ts) ts
   end_spreads l k us t s1 ts e = none_due l us us (todo_of t ∷ ts) ts refl (λ h. subst (λ (u : Task). TodoFits b (todo_of u ∷ ts)) e h)
-
-  pub level_spreads : (l k : ℕ) (us : List Due) (t : Task) (ts : List Todo) → t ≡ task.Level k → Spreads b l us us (todo_of t ∷ ts) ts
-  level_spreads l k us t ts e = none_due l us us (todo_of t ∷ ts) ts refl (λ h. subst (λ (u : Task). TodoFits b (todo_of u ∷ ts)) e h)
 
   -- the walk over the goals of a part
 

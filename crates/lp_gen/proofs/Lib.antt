@@ -55,6 +55,8 @@ mod BlocksTaken
 mod StepsWalked
 mod BodySteps
 mod BodyFacts
+mod BodyUsed
+mod GoalsUsed
 mod AssumptionPut
 mod BodyCoded
 mod Patched
@@ -107,3 +109,13 @@ mod NamedNumbers
 mod QueryDenotes
 mod PartsDone
 mod RecordCode
+mod StandsIn
+mod StartsAlike
+mod Regrouped
+mod Filling
+mod Keeping
+mod Reaching
+mod GroupParts
+mod GroupFits
+mod FitsOrPasses
+mod AddFits

@@ -4,7 +4,7 @@ use Rattle.std.specs.Prelude.{nat_lt, sum_by, if◌then◌else◌}
 use Rattle.std.proofs.lemmas.Bool.{ltb-true, ltb-false, lt-ltb}
 use Rattle.std.proofs.lemmas.List.Sums.{sum_by-cons}
 use Rattle.lp_base.specs.declared.limit.Limit.TheVariants as limit
-use Rattle.lp_calculus.specs.Term.{Term, Atom, index, atom, app, abs, apply, constant, integer, text, eigen, logic, param}
+use Rattle.lp_calculus.specs.Term.{Term, Atom, index, atom, app, abs, apply}
 use Rattle.lp_term.specs.Nodes.{Nodes, tree, type_tree, node_tree}
 use Rattle.lp_term.specs.Shapes.{term_shape}
 use Rattle.lp_term.specs.Walk.{size}
@@ -24,7 +24,8 @@ use Rattle.lp_gen.specs.declared.limits.Look.{Look}
 use Rattle.lp_gen.specs.declared.limits.Look.TheVariants as look
 use Rattle.lp_gen.specs.declared.limits.Source.{Source}
 use Rattle.lp_gen.specs.declared.limits.Source.TheVariants as on
-use Rattle.lp_gen.specs.Limits.{past, term_counts, goal_counts, goals_counts, clauses_counts, in_arguments, in_nesting, of_nesting}
+use Rattle.lp_gen.specs.Registers.{past}
+use Rattle.lp_gen.specs.Limits.{term_counts, goal_counts, goals_counts, clauses_counts, in_arguments, in_nesting, of_nesting}
 use Rattle.lp_gen.specs.inner.Limiting.{in_records, nodes_of, counting_of, strict, IsOver, times, TermsOver, GoalsOver, source_counts, counts_left, IsMet, source_task, source_work}
 use Rattle.lp_gen.proofs.Works.{one_more, two_more, application_weighs, some_args}
 use Rattle.lp_gen.proofs.Tops.{atom_is, cut_is, either_is, some_is, all_is, assume_is, not_is, clause_is}

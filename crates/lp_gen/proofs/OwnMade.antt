@@ -4,7 +4,7 @@ use Rattle.std.specs.Prelude.{nat_le, if◌then◌else◌, min, slice_get, optio
 use Rattle.std.proofs.lemmas.Bool.{leb-true, le-leb}
 use Rattle.lp_gen.specs.declared.emitter.Emitter.{Emitter}
 use Rattle.lp_gen.specs.inner.Running.{TermsStand}
-use Rattle.lp_gen.specs.inner.Listing.{Seen, Around, at_level, marked, set_level}
+use Rattle.lp_gen.specs.Steps.{Seen, Around, at_level, marked, set_level}
 use Rattle.lp_gen.specs.inner.TermLaw.{Standing, as_set}
 use Rattle.lp_gen.specs.inner.Written.{Goes}
 use Rattle.lp_gen.specs.inner.Bodies.{IsShort}

@@ -6,8 +6,7 @@ use Rattle.lp_calculus.specs.Types.{Ty}
 use Rattle.lp_calculus.specs.Term.{Term, Atom, index, atom, abs, app, constant, integer, text, eigen, logic, param}
 use Rattle.lp_calculus.specs.Typing.{o_type}
 use Rattle.lp_code.specs.States.{member}
-use Rattle.lp_gen.specs.inner.Reading.{from_of, to_of}
-use Rattle.lp_gen.specs.inner.Listing.{Step, make_constant, make_integer, make_text, make_index, make_variable, from_register, apply_last, abstract_last, Seen, Around, at_level, level_in, set_level, Listed, one_step, seen_listed, found_listed, level_listed, bound_listed, atom_listed, listed, headed}
+use Rattle.lp_gen.specs.Steps.{from_of, to_of, Step, make_constant, make_integer, make_text, make_index, make_variable, from_register, apply_last, abstract_last, Seen, Around, at_level, level_in, set_level, Listed, one_step, seen_listed, found_listed, level_listed, bound_listed, atom_listed, listed, headed}
 use Rattle.lp_gen.specs.inner.TermLaw.{as_set, SameAround}
 use Rattle.lp_gen.specs.inner.Owned.{made_by, AreStarted, MakesOwn, StaysSet}
 use Rattle.lp_gen.proofs.AroundSet.{set_own, around_same, around_then, around_set, found_set, seen_of}

@@ -7,14 +7,14 @@ use Rattle.std.proofs.lemmas.Option.{slice_get_within, slice_get-get_or, get_or_
 use Rattle.lp_calculus.specs.Types.{Ty}
 use Rattle.lp_term.specs.Nodes.{Nodes, type_tree}
 use Rattle.lp_code.specs.States.{member, passing, placed}
-use Rattle.lp_gen.specs.inner.Listing.{Seen, Around, at_level}
+use Rattle.lp_gen.specs.Steps.{Seen, Around, at_level}
 use Rattle.lp_gen.specs.inner.TermLaw.{as_set, SameAround}
 use Rattle.lp_gen.specs.inner.Owned.{AreStarted, MakesOwn}
 use Rattle.lp_gen.specs.inner.GoalCode.{numbers}
 use Rattle.lp_gen.specs.declared.plan.Origin.{Origin}
 use Rattle.lp_gen.specs.declared.plan.Origin.TheVariants as origin
 use Rattle.lp_gen.specs.inner.Entering.{unmade, clause_own, query_own, types_at}
-use Rattle.lp_gen.specs.inner.Recorded.{own_of, own_count}
+use Rattle.lp_gen.specs.inner.Recorded.{own_of, own_count, index_types}
 use Rattle.lp_gen.proofs.TypeWorks.{map_length}
 use Rattle.lp_gen.proofs.AssumptionPut.{numbers_last}
 use Rattle.lp_gen.proofs.AroundSet.{seen_of}
@@ -239,10 +239,6 @@ placed_back (suc n) k d (suc i) l =
     ∙ ap (placed (reverse (numbers k n)) (suc d)) z ∙ placed_back n k (suc d) i (omega (arith, l)) ∙ ap (λ j. Some j) y
 
 -- what a record is the code of: the types of its own variables by their indices, and the register of each
-
-abbrev pub index_types : Nodes → Origin → List Ty
-index_types b (origin.Clause c) = types_at b c.now.vars.items
-index_types b (origin.Query q gs) = reverse (types_at b (map (λ v. v.1) q.now.vars.items))
 
 abbrev pub own_register : Nodes → Origin → (first : ℕ) → ℕ → ℕ
 own_register b (origin.Clause c) k i = k + i

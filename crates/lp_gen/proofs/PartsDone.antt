@@ -21,7 +21,7 @@ use Rattle.lp_gen.specs.declared.plan.Part.{Part}
 use Rattle.lp_gen.specs.declared.plan.Origin.{Origin}
 use Rattle.lp_gen.specs.declared.plan.Origin.TheVariants as origin
 use Rattle.lp_gen.specs.declared.tables.Tables.{Tables}
-use Rattle.lp_gen.specs.inner.Listing.{Around, constant_function}
+use Rattle.lp_gen.specs.Steps.{Around, constant_function}
 use Rattle.lp_gen.specs.inner.Bodies.{bare_clauses, said_clauses, AllThrough}
 use Rattle.lp_gen.specs.inner.GoalCode.{numbers}
 use Rattle.lp_gen.specs.inner.Entering.{types_at}

@@ -27,7 +27,7 @@ use Rattle.lp_gen.specs.declared.plan.Assumption.{Assumption}
 use Rattle.lp_gen.specs.declared.plan.Part.{Part}
 use Rattle.lp_gen.specs.declared.plan.Origin.TheVariants as origin
 use Rattle.lp_gen.specs.declared.tables.Tables.{Tables}
-use Rattle.lp_gen.specs.inner.Listing.{Seen, Around, at_level, level_in, constant_function}
+use Rattle.lp_gen.specs.Steps.{Seen, Around, at_level, level_in, constant_function}
 use Rattle.lp_gen.specs.inner.TermLaw.{IsSeen, AllLoose}
 use Rattle.lp_gen.specs.inner.Written.{AreAsked}
 use Rattle.lp_gen.specs.inner.Bodies.{new_level, IsShort, bare_clauses, said_clauses, AreThrough}
@@ -36,7 +36,7 @@ use Rattle.lp_gen.specs.inner.Entering.{types_at}
 use Rattle.lp_gen.specs.inner.OpenGoals.{goals_steps, EndsGoals}
 use Rattle.lp_gen.specs.inner.BodyCode.{Suppositions, AreStarts, started_at, levels_found, steps_of}
 use Rattle.lp_gen.specs.inner.BodyLaw.{more_of, ClausesFit, GoalsFit, AreBelow, AreAlls, AreLater, StartWith}
-use Rattle.lp_gen.specs.inner.Planned.{clauses_length, goal_records, goals_records, GoalHas, GoalsHave, IsWritten, AreWritten, IsAtLevel, IsAssumption, NamedBy, AreNamed, IsCaptured, AreCaptured}
+use Rattle.lp_gen.specs.inner.Planned.{clauses_length, goal_records, goals_records, level_behind, GoalHas, GoalsHave, IsWritten, AreWritten, IsAtLevel, IsAssumption, NamedBy, AreNamed, IsCaptured, AreCaptured}
 use Rattle.lp_gen.specs.inner.Recorded.{own_count}
 use Rattle.lp_gen.specs.inner.Planning.{body_of}
 use Rattle.lp_gen.proofs.BodySaid.{TellClauses}
@@ -304,7 +304,7 @@ module _ {S : Type 0} (t : Tables) (cl : Suppositions) (T : CodeTables) (all : L
 
     goals_written : (i q d : ℕ) (gs : Goals) → suc (t.first + i) ≤ q → AreWritten gs → GoalsHave (IsAssumption t cl) q d gs → WrittenFrom i → written_goals gs ≡ gs
     goals_written i q d no_goals le x y f = refl
-    goals_written i q d (goals g gs) le x y f = λ k. goals (goal_written i q d g le x.0 y.0 f k) (goals_written i (q + goal_records g) d gs (omega (arith, le)) x.1 y.1 f k)
+    goals_written i q d (goals g gs) le x y f = λ k. goals (goal_written i q d g le x.0 y.0 f k) (goals_written i (q + goal_records g) (level_behind d g) gs (omega (arith, le)) x.1 y.1 f k)
 
   clauses_written : (n : ℕ) (x : Assumption) → slice_get t.assumptions.now n ≡ Some x →
       ((j : ℕ) (c : Clause) → clause_at (cl.clauses n) j ≡ Some c → written_clauses (clauses c no_clauses) ≡ clauses c no_clauses) →

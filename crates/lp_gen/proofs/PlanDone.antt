@@ -19,9 +19,9 @@ use Rattle.lp_gen.specs.declared.plan.Step.TheVariants as on
 use Rattle.lp_gen.specs.declared.plan.Task.{Task}
 use Rattle.lp_gen.specs.declared.plan.Task.TheVariants as task
 use Rattle.lp_gen.specs.declared.plan.Origin.TheVariants as origin
-use Rattle.lp_gen.specs.inner.Planning.{AreDue, IsAssumed, Todo, due_goals, due_end, due_level, todo_of, todos, WalkStands, WalkKept}
+use Rattle.lp_gen.specs.inner.Planning.{AreDue, IsAssumed, Todo, due_goals, due_end, todo_of, todos, WalkStands, WalkKept}
 use Rattle.lp_gen.proofs.PlanWalked.{due_more}
-use Rattle.lp_gen.proofs.PlanGoals.{first_goal, no_more, atom_put, cut_put, either_put, some_put, all_put, not_put, assumed_put, end_put, level_put}
+use Rattle.lp_gen.proofs.PlanGoals.{first_goal, no_more, atom_put, cut_put, either_put, some_put, all_put, not_put, assumed_put, end_put}
 use Rattle.lp_gen.proofs.PlanParts.{walk_begins}
 
 pub todos_push : (xs ys : List Task) (t : Task) → ys ≡ xs ++ t ∷ [] → todos ys ≡ todo_of t ∷ todos xs
@@ -57,10 +57,9 @@ module _ (us : List Due) (xs : List Assumption) (d d' : ℕ) (ss ss' : List Step
       (f ∙ (λ i. due_goals (left i) ∷ due_end on.Turn d ∷ due_goals (right i) ∷ due_end on.EndEither d ∷ ts)) h
 
   pub some_done : (T : TypeId) (l : Vec Goal Global) (ls : List Goal) → g ≡ code.Some T l → ls ≡ l.items → d' ≡ suc d → ss' ≡ ss ++ on.Some T ∷ [] →
-      ts' ≡ due_goals ls ∷ due_level d ∷ ts → WalkKept us us xs xs d d' ss ss' (due_goals (g ∷ []) ∷ ts) ts'
+      ts' ≡ due_goals ls ∷ ts → WalkKept us us xs xs d d' ss ss' (due_goals (g ∷ []) ∷ ts) ts'
   some_done T l ls h is v e f =
-      goal_done us us xs xs d d' d' ss (ss ++ on.Some T ∷ []) ss' ts (due_goals l.items ∷ due_level d ∷ ts) ts' (code.Some T l) g
-      (some_put us xs d ss ts d' T l v) refl e (f ∙ (λ i. due_goals (is i) ∷ due_level d ∷ ts)) h
+      goal_done us us xs xs d d' d' ss (ss ++ on.Some T ∷ []) ss' ts (due_goals l.items ∷ ts) ts' (code.Some T l) g (some_put us xs d ss ts d' T l v) refl e (f ∙ (λ i. due_goals (is i) ∷ ts)) h
 
   pub all_done : (T : TypeId) (l : Vec Goal Global) (ls : List Goal) → g ≡ code.All T l → ls ≡ l.items → d' ≡ suc d → ss' ≡ ss ++ on.All T ∷ [] → ts'
       ≡ due_goals ls ∷ due_end on.EndAll d ∷ ts → WalkKept us us xs xs d d' ss ss' (due_goals (g ∷ []) ∷ ts) ts'
@@ -100,9 +99,6 @@ pub task_end : (us : List Due) (xs : List Assumption) (d : ℕ) (ss ss' : List S
     ss' ≡ ss ++ s ∷ [] → WalkKept us us xs xs d l ss ss' (todo_of t ∷ ts) ts
 task_end us xs d ss ss' ts t s l e f =
     subst (λ (u : Task). WalkKept us us xs xs d l ss ss' (todo_of u ∷ ts) ts) (sym e) (subst (λ k. WalkKept us us xs xs d l ss k (due_end s l ∷ ts) ts) (sym f) (end_put us xs d ss ts s l))
-
-pub task_level : (us : List Due) (xs : List Assumption) (d : ℕ) (ss : List Step) (ts : List Todo) (t : Task) (l : ℕ) → t ≡ task.Level l → WalkKept us us xs xs d l ss ss (todo_of t ∷ ts) ts
-task_level us xs d ss ts t l e = subst (λ (u : Task). WalkKept us us xs xs d l ss ss (todo_of u ∷ ts) ts) (sym e) (level_put us xs d ss ts l)
 
 -- before the first task
 pub walk_ready : (us : List Due) (xs : List Assumption) (d d' : ℕ) (ss : List Step) (none all : List Task) (gs : Bor (List Goal)) (body : List Goal) →

@@ -17,8 +17,8 @@ use Rattle.lp_gen.specs.declared.plan.Step.{Step}
 use Rattle.lp_gen.specs.declared.plan.Step.TheVariants as on
 use Rattle.lp_gen.specs.inner.OpenGoals.{BodyStep, turn, end_either, end_all, end_assume, end_deny, goal_steps, goals_steps}
 use Rattle.lp_gen.specs.inner.BodyCode.{Suppositions, step_of}
-use Rattle.lp_gen.specs.inner.Planned.{clauses_length, goal_records, goals_records, GoalHas, GoalsHave, IsWritten, DeepGoal}
-use Rattle.lp_gen.specs.inner.Planning.{IsAssumed, Todo, due_goals, due_end, due_level, todo_steps, todo_records, TodoHave, TodoWritten, TodoDeep, WalkKept}
+use Rattle.lp_gen.specs.inner.Planned.{clauses_length, goal_records, goals_records, level_behind, levels_behind, GoalHas, GoalsHave, IsWritten, DeepGoal}
+use Rattle.lp_gen.specs.inner.Planning.{IsAssumed, Todo, due_goals, due_end, todo_steps, todo_records, TodoHave, TodoWritten, TodoDeep, WalkKept}
 use Rattle.lp_gen.proofs.Tops.{atom_is, cut_is, either_is, some_is, all_is, assume_is, not_is, clauses_many}
 use Rattle.lp_gen.proofs.PlanWalked.{step_put, todo_same, assume_put}
 
@@ -28,10 +28,10 @@ one_steps : (b : Nodes) (cl : Suppositions) (g : Goal) (F : FlatGoal) (ts : List
 one_steps b cl g F ts ss is e = ap (λ l. l ++ todo_steps b cl ts) (append-nil (goal_steps (goal_of b g))) ∙ ap (λ u. goal_steps u ++ todo_steps b cl ts) is ∙ e
 
 one_has : (b : Nodes) (D : ℕ → ℕ → Clauses → Type 0) (q d : ℕ) (g : Goal) (F : FlatGoal) (ts : List Todo) → goal_of b g ≡ F → GoalHas D q d F →
-    TodoHave b D (q + goal_records F) d ts → TodoHave b D q d (due_goals (g ∷ []) ∷ ts)
+    TodoHave b D (q + goal_records F) (level_behind d F) ts → TodoHave b D q d (due_goals (g ∷ []) ∷ ts)
 one_has b D q d g F ts is x y =
     let z : q + goal_records F ≡ q + (goal_records F + 0) = omega arith in
-    ((subst (GoalHas D q d) (sym is) x, tt), subst (λ u. TodoHave b D (q + (goal_records u + 0)) d ts) (sym is) (subst (λ k. TodoHave b D k d ts) z y))
+    ((subst (GoalHas D q d) (sym is) x, tt), subst (λ u. TodoHave b D (q + (goal_records u + 0)) (level_behind d u) ts) (sym is) (subst (λ k. TodoHave b D k (level_behind d F) ts) z y))
 
 one_records : (b : Nodes) (g : Goal) (F : FlatGoal) (ts : List Todo) → goal_of b g ≡ F → todo_records b (due_goals (g ∷ []) ∷ ts) ≡ goal_assumes F + todo_records b ts
 one_records b g F ts is = let n = ap goal_assumes is in omega (arith, n)
@@ -64,8 +64,10 @@ module _ (us : List Due) (xs : List Assumption) (d : ℕ) (ss : List Step) (ts :
       (λ l. l ++ (goals_steps (goals_of b gs) ++ todo_steps b cl ts)) (sym (append-nil (goal_steps (goal_of b g)))))
       (λ b D q x.
       let z : q + (goal_records (goal_of b g) + 0) ≡ q + goal_records (goal_of b g) = omega arith in
-      let y : q + (goal_records (goal_of b g) + 0) + goals_records (goals_of b gs) ≡ q + (goal_records (goal_of b g) + goals_records (goals_of b gs)) = omega arith in
-      ((x.0.0, subst (λ k. GoalsHave D k d (goals_of b gs)) z x.1.0), subst (λ k. TodoHave b D k d ts) y x.1.1))
+      let y : q + (goal_records (goal_of b g) + 0) + goals_records (goals_of b gs) ≡ q + (goal_records (goal_of b g) + goals_records (goals_of b gs)) = omega arith in (
+        (x.0.0, subst (λ k. GoalsHave D k (level_behind d (goal_of b g)) (goals_of b gs)) z x.1.0),
+        subst (λ k. TodoHave b D k (levels_behind (level_behind d (goal_of b g)) (goals_of b gs)) ts) y x.1.1,
+      ))
       (λ b x. ((x.0.0, x.1.0), x.1.1)) (λ b x. ((x.0.0, last_goal (goal_of b g), tt), (x.0.2, x.1))) (λ e. e) (λ b. omega arith)
 
   pub no_more : WalkKept us us xs xs d d ss ss (due_goals [] ∷ ts) ts
@@ -108,12 +110,13 @@ module _ (us : List Due) (xs : List Assumption) (d : ℕ) (ss : List Step) (ts :
       (λ b. let n = one_records b (code.Either l r) (Either (goals_of b l.items) (goals_of b r.items)) ts (either_is b l r) in omega (arith, n))
 
   pub some_put : (d' : ℕ) (T : TypeId) (l : Vec Goal Global) → d' ≡ suc d → WalkKept us us xs xs d d' ss (ss ++ on.Some T ∷ [])
-      (due_goals (code.Some T l ∷ []) ∷ ts) (due_goals l.items ∷ due_level d ∷ ts)
+      (due_goals (code.Some T l ∷ []) ∷ ts) (due_goals l.items ∷ ts)
   some_put d' T l more =
-      step_put us xs d d' ss (on.Some T) (due_goals (code.Some T l ∷ []) ∷ ts) (due_goals l.items ∷ due_level d ∷ ts)
+      step_put us xs d d' ss (on.Some T) (due_goals (code.Some T l ∷ []) ∷ ts) (due_goals l.items ∷ ts)
       (λ b cl. one_steps b cl (code.Some T l) (Exists (type_tree b T.0) (goals_of b l.items)) ts
-      (step_of b cl (on.Some T) ∷ todo_steps b cl (due_goals l.items ∷ due_level d ∷ ts)) (some_is b T l) refl)
-      (λ b D q x. one_has b D q d (code.Some T l) (Exists (type_tree b T.0) (goals_of b l.items)) ts (some_is b T l) (subst (λ k. GoalsHave D q k (goals_of b l.items)) more x.0) x.1)
+      (step_of b cl (on.Some T) ∷ todo_steps b cl (due_goals l.items ∷ ts)) (some_is b T l) refl)
+      (λ b D q x. one_has b D q d (code.Some T l) (Exists (type_tree b T.0) (goals_of b l.items)) ts (some_is b T l) (subst (λ k. GoalsHave D q k (goals_of b l.items)) more x.0)
+      (subst (λ k. TodoHave b D (q + goals_records (goals_of b l.items)) (levels_behind k (goals_of b l.items)) ts) more x.1))
       (λ b x. one_written b (code.Some T l) (Exists (type_tree b T.0) (goals_of b l.items)) ts (some_is b T l) x.0 x.1)
       (λ b x. one_deep b (code.Some T l) (Exists (type_tree b T.0) (goals_of b l.items)) ts (some_is b T l) x)
       (λ e. (e, (λ t q m. tt, λ t q. refl, λ t. refl))) (λ b. one_records b (code.Some T l) (Exists (type_tree b T.0) (goals_of b l.items)) ts (some_is b T l))
@@ -165,6 +168,3 @@ module _ (us : List Due) (xs : List Assumption) (d : ℕ) (ss : List Step) (ts :
 
   pub end_put : (s : Step) (l : ℕ) → WalkKept us us xs xs d l ss (ss ++ s ∷ []) (due_end s l ∷ ts) ts
   end_put s l = step_put us xs d l ss s (due_end s l ∷ ts) ts (λ b cl. refl) (λ b D q x. x) (λ b x. x) (λ b x. x) (λ e. (e.1, e.0)) (λ b. refl)
-
-  pub level_put : (l : ℕ) → WalkKept us us xs xs d l ss ss (due_level l ∷ ts) ts
-  level_put l = todo_same us xs d l ss (due_level l ∷ ts) ts (λ b cl. refl) (λ b D q x. x) (λ b x. x) (λ b x. x) (λ e. e) (λ b. refl)

@@ -15,11 +15,11 @@ use Rattle.lp_gen.specs.declared.plan.Step.TheVariants as on
 use Rattle.lp_gen.specs.declared.tables.Tables.{Tables}
 use Rattle.lp_gen.specs.inner.OpenGoals.{BodyStep}
 use Rattle.lp_gen.specs.inner.BodyCode.{Suppositions, step_of, steps_of, next_of, next_all, IsNext, AreNext, count_starts, starts_all, count_named, one_if}
-use Rattle.lp_gen.specs.inner.Planned.{DeepClauses, AreCaptured, AreOnly}
+use Rattle.lp_gen.specs.inner.Planned.{DeepClauses}
 use Rattle.lp_gen.proofs.BodyFacts.{starts_cons}
 use Rattle.lp_gen.specs.Limits.{clauses_records}
 use Rattle.lp_gen.proofs.RecordsCounted.{due_grown}
-use Rattle.lp_gen.specs.inner.Planning.{IsDue, AreDue, IsMade, Stays, AreAssumed, AllCaptured, Extends, Todo, todo_steps, todo_records, TodoHave, TodoWritten, TodoDeep, HoldClauses, AssumptionAt, IsEnd, AllEnds, WalkKept}
+use Rattle.lp_gen.specs.inner.Planning.{IsDue, AreDue, IsMade, Stays, AreAssumed, IsCapturing, AllCaptured, Extends, Todo, todo_steps, todo_records, TodoHave, TodoWritten, TodoDeep, HoldClauses, AssumptionAt, IsEnd, AllEnds, WalkKept}
 
 -- lists that grow
 
@@ -225,9 +225,9 @@ module _ (us us' : List Due) (xs : List Assumption) (cs : List Clause) (d : ℕ)
 
 -- with one more that captures what stands in its clauses
 pub captured_more : (b : Nodes) (xs ys : List Assumption) (x : Assumption) → ys ≡ xs ++ x ∷ [] →
-    AreCaptured x (clauses_of b x.clauses.now) × AreOnly x (clauses_of b x.clauses.now) → AllCaptured b xs → AllCaptured b ys
+    IsCapturing b x → AllCaptured b xs → AllCaptured b ys
 captured_more b xs ys x e new old n y at =
-    ⊎_elim (λ f. old n y f) (λ f. subst (λ (z : Assumption). AreCaptured z (clauses_of b z.clauses.now) × AreOnly z (clauses_of b z.clauses.now)) (sym f.1) new) (get_more xs x n y (ap (λ l. slice_get l n) (sym e) ∙ at))
+    ⊎_elim (λ f. old n y f) (λ f. subst (λ (z : Assumption). IsCapturing b z) (sym f.1) new) (get_more xs x n y (ap (λ l. slice_get l n) (sym e) ∙ at))
 
 -- a step that assumes clauses
 pub assume_put : (us us' : List Due) (xs : List Assumption) (cs : List Clause) (d d' : ℕ) (x : Assumption) (ss : List Step) (ts ts' : List Todo) → IsMade xs us us' cs d x →

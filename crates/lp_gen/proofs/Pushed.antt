@@ -9,7 +9,7 @@ use Rattle.lp_code.specs.States.{State, Home, bind_term}
 use Rattle.lp_code.specs.Denote.{is_all_variable}
 use Rattle.lp_gen.specs.Sources.{IsKnownType}
 use Rattle.lp_gen.specs.inner.Running.{TypesStand, TermsStand}
-use Rattle.lp_gen.specs.inner.Listing.{Seen, Around, level_in, at_level}
+use Rattle.lp_gen.specs.Steps.{Seen, Around, level_in, at_level}
 use Rattle.lp_gen.specs.inner.TermLaw.{IsSeen, AreSet}
 use Rattle.lp_gen.specs.inner.Bodies.{pushed, new_level, IsShort, with_level}
 use Rattle.lp_gen.specs.inner.GoalCode.{quantified}

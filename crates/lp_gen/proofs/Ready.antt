@@ -1,11 +1,11 @@
 -- Clauses of which there is code pass no limit but those of code: strings, records and registers.
-use Rattle.std.proofs.Common.{◌≡◌, ◌≤◌, ◌<◌, ℕ, zero, suc, ◌+◌, List, [], ◌∷◌, length, map, Bool, true, false, Option, Some, None, refl, arith}
-use Rattle.std.specs.Prelude.{All, max, nat_eq, if◌then◌else◌}
+use Rattle.std.proofs.Common.{◌≡◌, ◌≤◌, ℕ, zero, suc, ◌+◌, List, [], ◌∷◌, length, map, Bool, true, false, Option, Some, None, refl, arith}
+use Rattle.std.specs.Prelude.{All, nat_eq, if◌then◌else◌}
 use Rattle.std.proofs.lemmas.Bool.{eqb-true}
 use Rattle.std.proofs.lemmas.List.Elements.{All-head, All-tail}
 use Rattle.lp_base.specs.declared.limit.Limit.TheVariants as limit
 use Rattle.lp_calculus.specs.Types.{Ty, arrow}
-use Rattle.lp_calculus.specs.Term.{Term, Atom, index, atom, abs, app, constant, integer, text, eigen, logic, param}
+use Rattle.lp_calculus.specs.Term.{Term, index, atom, abs, app, constant, integer, text, eigen, logic, param}
 use Rattle.lp_calculus.specs.Typing.{Scheme, o_type, type_at, scheme_type, HasType}
 use Rattle.lp_calculus.specs.Types.{instance}
 use Rattle.lp_term.specs.Nodes.{Nodes}
@@ -21,8 +21,8 @@ use Rattle.lp_gen.specs.declared.fault.GenRefusal.TheVariants as refusal
 use Rattle.lp_gen.specs.declared.limits.Look.TheVariants as look
 use Rattle.lp_gen.specs.Contract.{tables_of}
 use Rattle.lp_gen.specs.Sources.{types_by, IsKnownTerm, Under, bound, all_bound, IsAtom, IsGoal, AreGoals, AreAssumed, goal_depth, goals_depth, clauses_depth, IsClause, IsQuery}
-use Rattle.lp_gen.specs.Limits.{past, term_counts, goal_counts, goals_counts, clauses_counts, in_arguments, in_nesting, of_arguments, of_nesting, Counts, counts_of_clauses, counts_of_goals}
-use Rattle.lp_gen.specs.Limits.{IsTold, ClausesPass, QueryPasses, IsOfCode, HaveFewTypes}
+use Rattle.lp_gen.specs.Limits.{term_counts, goal_counts, goals_counts, clauses_counts, in_arguments, in_nesting, of_arguments, of_nesting, Counts, counts_of_clauses, counts_of_goals}
+use Rattle.lp_gen.specs.Limits.{IsTold, ClausesFull, QueryFull, ClausesPass, QueryPasses, IsOfCode, HaveFewTypes}
 use Rattle.lp_gen.proofs.LimitsLeft.{past_within, clauses_split}
 
 no_type : (T : Ty) → ◌≡◌ {A = Option Ty} None (Some T) → ⊥
@@ -122,20 +122,20 @@ module _ (t : Tables) (few : HaveFewTypes t.constants) where
   clause_fine : (F : Clause) → IsClause t F → (clauses_counts of_arguments 0 (clauses F no_clauses) ≡ 0) × (clauses_counts of_nesting 0 (clauses F no_clauses) ≡ 0)
   clause_fine (clause n vs h b) x = clauses_fine (record { type_vars = n; indices = []; binders = [] }) 0 (clauses (clause 0 vs h b) no_clauses) x.0 (let d = x.1 in omega (arith, d))
 
-told_of_code : (n : Counts) (e : GenRefusal) → n.arguments ≡ 0 → n.nesting ≡ 0 → IsTold n e → IsOfCode e
-told_of_code n (refusal.Limit limit.Text) a d p = tt
-told_of_code n (refusal.Limit limit.Clauses) a d p = tt
-told_of_code n (refusal.Limit limit.Registers) a d p = tt
-told_of_code n (refusal.Limit limit.Arguments) a d p = let q = p.1 in absurd (omega (arith, a, q))
-told_of_code n (refusal.Limit limit.Nesting) a d p = let q = p.2 in absurd (omega (arith, d, q))
-told_of_code n (refusal.Limit limit.File) a d p = absurd p
-told_of_code n (refusal.Limit limit.Image) a d p = absurd p
-told_of_code n (refusal.Limit limit.Modules) a d p = absurd p
-told_of_code n (refusal.Limit limit.Copies) a d p = absurd p
-told_of_code n (refusal.Limit limit.Names) a d p = absurd p
-told_of_code n (refusal.Limit limit.NameLength) a d p = absurd p
-told_of_code n (refusal.Limit limit.NormalForm) a d p = absurd p
-told_of_code n refusal.Memory a d p = tt
+told_of_code : (n : Counts) (P : Type 0) (e : GenRefusal) → n.arguments ≡ 0 → n.nesting ≡ 0 → IsTold n P e → IsOfCode e
+told_of_code n P (refusal.Limit limit.Text) a d p = tt
+told_of_code n P (refusal.Limit limit.Clauses) a d p = tt
+told_of_code n P (refusal.Limit limit.Registers) a d p = tt
+told_of_code n P (refusal.Limit limit.Arguments) a d p = let q = p.1 in absurd (omega (arith, a, q))
+told_of_code n P (refusal.Limit limit.Nesting) a d p = let q = p.2 in absurd (omega (arith, d, q))
+told_of_code n P (refusal.Limit limit.File) a d p = absurd p
+told_of_code n P (refusal.Limit limit.Image) a d p = absurd p
+told_of_code n P (refusal.Limit limit.Modules) a d p = absurd p
+told_of_code n P (refusal.Limit limit.Copies) a d p = absurd p
+told_of_code n P (refusal.Limit limit.Names) a d p = absurd p
+told_of_code n P (refusal.Limit limit.NameLength) a d p = absurd p
+told_of_code n P (refusal.Limit limit.NormalForm) a d p = absurd p
+told_of_code n P refusal.Memory a d p = tt
 
 clauses_all_fine : (t : Tables) → HaveFewTypes t.constants → (b : Nodes) (cs : List code_clause.Clause) → All (IsClause t) (map (clause_of b) cs) →
     (clauses_counts of_arguments 0 (clauses_of b cs) ≡ 0) × (clauses_counts of_nesting 0 (clauses_of b cs) ≡ 0)
@@ -153,10 +153,10 @@ clauses_all_fine t few b (c ∷ cs) all =
 
 pub ready_clauses_told : (κ : ℕ → Option ℕ) (b : Nodes) (ds : List Declared) (cs : List code_clause.Clause) (e : GenRefusal) → HaveFewTypes (tables_of b ds κ).constants →
     All (IsClause (tables_of b ds κ)) (map (clause_of b) cs) → ClausesPass b ds cs e → IsOfCode e
-ready_clauses_told κ b ds cs e few all p = let w = clauses_all_fine (tables_of b ds κ) few b cs all in told_of_code (counts_of_clauses (clauses_of b cs)) e w.0 w.1 p
+ready_clauses_told κ b ds cs e few all p = let w = clauses_all_fine (tables_of b ds κ) few b cs all in told_of_code (counts_of_clauses (clauses_of b cs)) (ClausesFull b ds cs) e w.0 w.1 p
 
 pub ready_query_told : (κ : ℕ → Option ℕ) (b : Nodes) (ds : List Declared) (q : program.Typed) (gs : List code_goal.Goal) (vs : List Ty) (e : GenRefusal) →
     HaveFewTypes (tables_of b ds κ).constants → IsQuery (tables_of b ds κ) q.type_vars vs (goals_of b gs) → QueryPasses b ds q gs e → IsOfCode e
 ready_query_told κ b ds q gs vs e few is p =
     let w = goals_fine (tables_of b ds κ) few (record { type_vars = q.type_vars; indices = vs; binders = map (λ T. false) vs }) 0 (goals_of b gs) is.1 (let d = is.2 in omega (arith, d)) in
-    told_of_code (counts_of_goals (goals_of b gs)) e w.0 w.1 p
+    told_of_code (counts_of_goals (goals_of b gs)) (QueryFull b ds q gs) e w.0 w.1 p

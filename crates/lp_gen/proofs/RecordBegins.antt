@@ -10,7 +10,7 @@ use Rattle.lp_code.specs.Rules.{is_variable_of}
 use Rattle.lp_code.specs.Denote.{from_zero, started, is_all_variable}
 use Rattle.lp_gen.specs.Sources.{IsKnownType}
 use Rattle.lp_gen.specs.inner.Running.{HasRegisters}
-use Rattle.lp_gen.specs.inner.Listing.{Seen, Around, count_around, level_below, at_level, level_in}
+use Rattle.lp_gen.specs.Steps.{Seen, Around, count_around, level_below, at_level, level_in}
 use Rattle.lp_gen.specs.inner.TermLaw.{Standing, IsSeen}
 use Rattle.lp_gen.specs.inner.Bodies.{new_level, IsShort}
 use Rattle.lp_gen.specs.inner.Heading.{AreOwn}
@@ -200,7 +200,7 @@ or_right true d e = refl
 or_right false d e = e
 
 -- a level that is looked for and found
-found_at : (A : Around) (ks : List ℕ) (l : ℕ) (v : Seen) → member l ks ≡ true → at_level A l ≡ Some v → (i : ℕ) × (slice_get (levels_found A ks) i ≡ Some l)
+pub found_at : (A : Around) (ks : List ℕ) (l : ℕ) (v : Seen) → member l ks ≡ true → at_level A l ≡ Some v → (i : ℕ) × (slice_get (levels_found A ks) i ≡ Some l)
 found_at A [] l v e f = absurd (true≢false (sym e))
 found_at A (k ∷ ks) l v e f = go (nat_eq l k) refl (λ q. found_at A ks l v q f)
   where

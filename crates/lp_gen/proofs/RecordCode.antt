@@ -19,7 +19,8 @@ use Rattle.lp_gen.specs.declared.environment.Variable.{Variable}
 use Rattle.lp_gen.specs.declared.plan.Part.{Part}
 use Rattle.lp_gen.specs.declared.plan.Origin.{Origin}
 use Rattle.lp_gen.specs.declared.tables.Tables.{Tables}
-use Rattle.lp_gen.specs.inner.Listing.{Seen, Around, around_of, at_level, constant_function, level_in}
+use Rattle.lp_gen.specs.Steps.{Seen, Around, at_level, constant_function, level_in}
+use Rattle.lp_gen.specs.inner.Listing.{around_of}
 use Rattle.lp_gen.specs.inner.TermLaw.{AreSet, Standing}
 use Rattle.lp_gen.specs.inner.Owned.{makes, AreStarted}
 use Rattle.lp_gen.specs.inner.Written.{CodeOwns, AreAsked}
@@ -32,7 +33,7 @@ use Rattle.lp_gen.specs.inner.BodyLaw.{more_of, GoalsFit, AreLater, AreBelow, St
 use Rattle.lp_code.specs.Denote.{is_set_by_all, sets_by_all, Done, run, from_zero, started as started_with, has_neck, ends_with_proceed, is_all_variable, variable_types, first_state, nothing_captured}
 use Rattle.lp_gen.specs.declared.plan.Assumption.{Assumption}
 use Rattle.lp_gen.specs.inner.Planned.{clauses_length, goals_records, GoalsHave, IsAtLevel, AreNamed}
-use Rattle.lp_gen.specs.inner.Recorded.{MayRun, HeadWritten, FrontWritten, TypesWritten, RecordWritten, key_in, first_key_of, HasKey, head_in, own_of}
+use Rattle.lp_gen.specs.inner.Recorded.{index_types, MayRun, HeadWritten, FrontWritten, TypesWritten, RecordWritten, key_in, first_key_of, HasKey, head_in, own_of}
 use Rattle.lp_gen.proofs.OwnSet.{makes_both, made_is}
 use Rattle.lp_gen.proofs.OwnMadeBy.{started_on}
 use Rattle.lp_gen.proofs.CodeOwned.{owns_then}
@@ -43,7 +44,7 @@ use Rattle.lp_gen.proofs.CodeMapped.{plain_records, plain_have, goals_next, goal
 use Rattle.lp_gen.proofs.BodySteps.{numbers_length}
 use Rattle.lp_gen.proofs.BodyPlain.{goals_plain}
 use Rattle.lp_gen.proofs.BodyCoded.{body_coded}
-use Rattle.lp_gen.proofs.OwnPlaces.{OwnAre, own_numbers, index_types, own_register, own_are, index_types_count}
+use Rattle.lp_gen.proofs.OwnPlaces.{OwnAre, own_numbers, own_register, own_are, index_types_count}
 use Rattle.lp_gen.proofs.RecordBegins.{built_at, no_built, Outside, Inside, own_terms, own_term, old_term, binder_behind, front_held, started_registers, not_zero, start_length, are_own, are_started, own_unmade, old_variable, by_index, old_register, all_seen, all_known, all_free, all_alls, all_outer, stands_first, behind_held}
 use Rattle.std.proofs.lemmas.Bool.{ltb-true, ltb-false}
 use Rattle.lp_code.specs.Symbolic.{Built, held, whole}

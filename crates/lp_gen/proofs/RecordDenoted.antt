@@ -10,7 +10,7 @@ use Rattle.lp_code.specs.Symbolic.{Built, variable, held, whole, term_in}
 use Rattle.lp_code.specs.States.{State, Home, placed, index_or, bind_term, bind_goals}
 use Rattle.lp_code.specs.Written.{nothing_written, written_goals}
 use Rattle.lp_code.specs.Denote.{head_term, variable_types}
-use Rattle.lp_gen.specs.inner.Listing.{Seen, Around, at_level, level_in}
+use Rattle.lp_gen.specs.Steps.{Seen, Around, at_level, level_in}
 use Rattle.lp_gen.specs.inner.TermLaw.{KnownAtoms, AllLoose, level_term, index_term, with_variables}
 use Rattle.lp_gen.specs.inner.Bodies.{new_level, bare_goal, bare_goals, bare_clauses, HasLevel, Binds, AreThrough, IsThrough, AllThrough, said_goals, said_clauses}
 use Rattle.lp_gen.specs.inner.GoalCode.{numbers}

@@ -14,7 +14,8 @@ use Rattle.lp_gen.specs.declared.environment.Variable.{Variable}
 use Rattle.lp_gen.specs.declared.plan.Part.{Part}
 use Rattle.lp_gen.specs.declared.plan.Origin.{Origin}
 use Rattle.lp_gen.specs.declared.tables.Tables.{Tables}
-use Rattle.lp_gen.specs.inner.Listing.{Around, around_of, constant_function}
+use Rattle.lp_gen.specs.Steps.{Around, constant_function}
+use Rattle.lp_gen.specs.inner.Listing.{around_of}
 use Rattle.lp_gen.specs.inner.TermLaw.{AreSet}
 use Rattle.lp_gen.specs.inner.Owned.{AreStarted}
 use Rattle.lp_gen.specs.inner.Written.{CodeOwns}
@@ -48,7 +49,7 @@ module _ {S : Type 0} (t : Tables) (part : Part) (captured : IndexMap ℕ Variab
   abbrev around : Around
   around = record_of.around t part captured xs' o1 h w o
 
-  base_is : around.base ≡ part.base
+  pub base_is : around.base ≡ part.base
   base_is = ap (λ (a : Around). a.base) ((record_of.front_of t part captured xs' o1 h w o).entered.around t.bank.now) ∙ w.base
 
   started : AreStarted around
@@ -61,7 +62,7 @@ module _ {S : Type 0} (t : Tables) (part : Part) (captured : IndexMap ℕ Variab
   abbrev front_of : FrontWritten t.bank.now K w.typed w.fronted w.begun_env w.fronted_env o1 h.self.head
   front_of = record_of.front_of t part captured xs' o1 h w o
 
-  own_length : length around.own ≡ own_count o1
+  pub own_length : length around.own ≡ own_count o1
   own_length = (record_of.own_stands t part captured xs' o1 h w o).count ∙ index_types_count t.bank.now o1
 
   owned : CodeOwns around (around_of t.bank.now front_of.matched_env) (record_of.hm t part captured xs' o1 h w o).more
@@ -73,15 +74,15 @@ module _ {S : Type 0} (t : Tables) (part : Part) (captured : IndexMap ℕ Variab
   short_2 : IsShort (around_of t.bank.now front_of.matched_env)
   short_2 = let i = owned.same.base in let j = owned.same.count in let b = base_is in let n = own_length in omega (arith, i, j, b, n, few)
 
-  all_set : AreSet (around_of t.bank.now w.fronted_env)
+  pub all_set : AreSet (around_of t.bank.now w.fronted_env)
   all_set = own_all_set front_of.matched w.fronted (around_of t.bank.now front_of.matched_env) (around_of t.bank.now w.fronted_env) front_of.made short_2 started_2
 
-  all_owned : CodeOwns around (around_of t.bank.now w.fronted_env) ((record_of.hm t part captured xs' o1 h w o).more ++ front_of.made.some.made.more)
+  pub all_owned : CodeOwns around (around_of t.bank.now w.fronted_env) ((record_of.hm t part captured xs' o1 h w o).more ++ front_of.made.some.made.more)
   all_owned = owns_then around (around_of t.bank.now front_of.matched_env) (around_of t.bank.now w.fronted_env) (record_of.hm t part captured xs' o1 h w o).more front_of.made.some.made.more
       (λ s. head_owns K front_of.begun front_of.matched around (around_of t.bank.now front_of.matched_env) h.self.head
       (record_of.hd t part captured xs' o1 h w o) front_of.head s) front_of.made.some.made.owns started
 
-  coded : (last : List Instr)
+  pub coded : (last : List Instr)
       × GoalsCode (AssumedBy t cl) K t.type_vars (around_of t.bank.now w.fronted_env) w.body.begun.types w.body.said.types w.body.begun.registers
       w.body.said.registers q (next_all t q part.steps.items) (plain_goals gs) last
       × (w.body.said.code.items ≡ w.body.begun.code.items ++ last)

@@ -10,7 +10,7 @@ use Rattle.lp_code.specs.declared.record.Record.{Record}
 use Rattle.lp_code.specs.States.{member}
 use Rattle.lp_code.specs.Steps.{is_made, is_own_type}
 use Rattle.lp_code.specs.Rules.{names_of, names_in}
-use Rattle.lp_gen.specs.inner.Listing.{Around}
+use Rattle.lp_gen.specs.Steps.{Around}
 use Rattle.lp_gen.specs.inner.Owned.{new_type, makes_types}
 use Rattle.lp_gen.specs.inner.Bodies.{pushed}
 use Rattle.lp_gen.specs.inner.GoalCode.{quantified, numbers, GoalCode, GoalsCode}

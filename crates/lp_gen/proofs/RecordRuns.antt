@@ -20,7 +20,7 @@ use Rattle.lp_code.specs.Denote.{Done, run, head_term}
 use Rattle.lp_gen.specs.Sources.{goals_depth}
 use Rattle.lp_gen.specs.declared.emitter.Emitter.{Emitter}
 use Rattle.lp_gen.specs.inner.Running.{TermsStand}
-use Rattle.lp_gen.specs.inner.Listing.{Seen, Around, at_level}
+use Rattle.lp_gen.specs.Steps.{Seen, Around, at_level}
 use Rattle.lp_gen.specs.inner.TermLaw.{Standing, AreSet, as_set, with_variables, SameAround}
 use Rattle.lp_gen.specs.inner.Owned.{makes_types, AreStarted}
 use Rattle.lp_gen.specs.inner.Written.{Goes, CodeOwns}

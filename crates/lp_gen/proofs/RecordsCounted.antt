@@ -1,5 +1,5 @@
 -- How many records a plan has.
-use Rattle.std.proofs.Common.{◌≡◌, ◌∙◌, ◌≤◌, ◌<◌, ℕ, zero, suc, ◌+◌, List, [], ◌∷◌, ◌++◌, length, get_or, Option, Some, ap, refl, sym, arith}
+use Rattle.std.proofs.Common.{◌≡◌, ◌∙◌, ◌≤◌, ◌<◌, ℕ, zero, suc, ◌+◌, List, [], ◌∷◌, ◌++◌, length, get_or, Option, Some, ap, refl, sym, arith, take}
 use Rattle.std.specs.Prelude.{All, slice_get}
 use Rattle.std.proofs.lemmas.List.{length-append}
 use Rattle.std.proofs.lemmas.List.Sums.{sum_by-cons, sum_by-append, sum_by_push}
@@ -162,3 +162,10 @@ clause_counted b (d ∷ cs) zero c e =
     let y = ap (λ (k : Clause). goals_assume (goals_of b k.body.items)) same in
     omega (arith, x, y)
 clause_counted b (d ∷ cs) (suc i) c e = let z = clause_counted b cs i c e in let x = records_of_clause b d (clauses_of b cs) in omega (arith, z, x)
+
+pub clauses_before : (b : Nodes) (cs : List Clause) (i : ℕ) (c : Clause) → slice_get cs i ≡ Some c →
+    clauses_records (clauses_of b (take i cs)) + suc (goals_assume (goals_of b c.body.items)) ≤ clauses_records (clauses_of b cs)
+clauses_before b [] i c e = absurd (no_clause i c e)
+clauses_before b (d ∷ cs) zero c e = let z = clause_counted b (d ∷ cs) zero c e in omega (arith, z)
+clauses_before b (d ∷ cs) (suc i) c e =
+    let z = clauses_before b cs i c e in let x = records_of_clause b d (clauses_of b cs) in let y = records_of_clause b d (clauses_of b (take i cs)) in omega (arith, z, x, y)

@@ -1,9 +1,9 @@
 -- Strings that are short enough, and a string as it is cut.
-use Rattle.std.proofs.Common.{◌≡◌, ◌≤◌, ◌<◌, ℕ, List, true, length, arith}
+use Rattle.std.proofs.Common.{◌≡◌, ℕ, List, true, length, arith}
 use Rattle.std.specs.Prelude.{nat_lt, take}
 use Rattle.std.proofs.lemmas.Bool.{ltb-true, lt-ltb}
 use Rattle.std.proofs.lemmas.List.{length-take, take_all}
-use Rattle.lp_gen.specs.Limits.{past}
+use Rattle.lp_gen.specs.Registers.{past}
 use Rattle.lp_gen.proofs.LimitsLeft.{within_past}
 
 pub string_short : (s : List ℕ) → past 65535 (length s) ≡ 0 → nat_lt (length s) 65536 ≡ true

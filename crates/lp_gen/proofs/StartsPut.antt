@@ -8,7 +8,8 @@ use Rattle.indexmap.specs.IndexMap.{IndexMap, get, index_map_len, Updates}
 use Rattle.lp_term.specs.Nodes.{Nodes}
 use Rattle.lp_code.specs.States.{member}
 use Rattle.lp_gen.specs.declared.environment.Variable.{Variable}
-use Rattle.lp_gen.specs.inner.Listing.{Seen, Around, seen, at_level}
+use Rattle.lp_gen.specs.Steps.{Seen, Around, at_level}
+use Rattle.lp_gen.specs.inner.Listing.{seen}
 use Rattle.lp_gen.specs.inner.BodyCode.{levels_found, level_found, AreStarts, started_at, AreAllSet}
 use Rattle.lp_gen.proofs.AssumptionPut.{found_last}
 
@@ -63,7 +64,7 @@ member_first : (l k : ℕ) (ks : List ℕ) → l ≡ k → member l (k ∷ ks) �
 member_first l k ks e = ap (λ t. t || member l ks) (eq-eqb l k e)
 
 -- levels that are found are some of those that are looked for
-found_among : (a : Around) (ks : List ℕ) (i l : ℕ) → slice_get (levels_found a ks) i ≡ Some l → member l ks ≡ true
+pub found_among : (a : Around) (ks : List ℕ) (i l : ℕ) → slice_get (levels_found a ks) i ≡ Some l → member l ks ≡ true
 found_among a [] i l e = absurd (no_level l e)
 found_among a (k ∷ ks) i l e = go (at_level a k) i (λ j f. found_among a ks j l f) e
   where

@@ -7,7 +7,7 @@ use Rattle.lp_code.specs.declared.instruction.Instr.{Instr}
 use Rattle.lp_code.specs.declared.instruction.Instr.TheVariants as on
 use Rattle.lp_code.specs.States.{with_goal}
 use Rattle.lp_gen.specs.Sources.{ends_list}
-use Rattle.lp_gen.specs.inner.Listing.{Seen, Around}
+use Rattle.lp_gen.specs.Steps.{Seen, Around}
 use Rattle.lp_gen.specs.inner.Bodies.{pushed}
 use Rattle.lp_gen.specs.inner.GoalCode.{quantified, GoalCode, GoalsCode}
 use Rattle.lp_gen.specs.inner.OpenGoals.{Opening, in_left, in_right, in_some, in_all, in_assumption, in_denial, OpenBlock, block, Walked, walked, closed, into, Mark, IsNoSigma, AreNoSigma, OpensBy, Start, Opens, Stands, cut_to, Closes}

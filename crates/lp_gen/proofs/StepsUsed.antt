@@ -1,5 +1,5 @@
 -- What the steps of a term take, one after the other, and that each finds what it takes.
-use Rattle.std.proofs.Common.{◌≡◌, ◌∙◌, ℕ, zero, suc, ◌+◌, ◌-◌, ◌<◌, ◌≤◌, List, [], ◌∷◌, ◌++◌, length, map, take, drop, Bool, true, false, Option, Some, None, ap, refl, sym, subst, arith}
+use Rattle.std.proofs.Common.{◌≡◌, ◌∙◌, ℕ, zero, suc, ◌+◌, ◌-◌, ◌≤◌, List, [], ◌∷◌, ◌++◌, length, map, drop, Bool, true, false, Option, Some, None, ap, refl, sym, subst, arith}
 use Rattle.std.specs.Prelude.{slice_get, if◌then◌else◌}
 use Rattle.std.proofs.lemmas.List.{map-append, length-append, length-take}
 use Rattle.lp_calculus.specs.Types.{Ty}
@@ -9,9 +9,9 @@ use Rattle.lp_term.specs.Nodes.{Nodes}
 use Rattle.lp_gen.specs.declared.emitter.Emitter.{Emitter}
 use Rattle.lp_gen.specs.declared.fault.RecordRefusal.{RecordRefusal}
 use Rattle.lp_gen.specs.declared.term_steps.TermStep.{TermStep}
-use Rattle.lp_gen.specs.Registers.{Amount, both, step_takes, steps_take}
-use Rattle.lp_gen.specs.inner.Reading.{from_of, to_of}
-use Rattle.lp_gen.specs.inner.Listing.{Step, make_variable, from_register, apply_last, abstract_last, one_step, set_level, Seen, Around, at_level, level_in, Listed, listed, Headed, headed, index_listed, bound_listed, level_listed, found_listed, seen_listed, atom_listed, plain_step}
+use Rattle.lp_gen.specs.Registers.{both, step_takes, steps_take}
+use Rattle.lp_gen.specs.Steps.{from_of, to_of, Step, make_variable, from_register, apply_last, abstract_last, one_step, set_level, Seen, Around, at_level, level_in, Listed, listed, Headed, headed, index_listed, bound_listed, level_listed, found_listed, seen_listed, atom_listed}
+use Rattle.lp_gen.specs.inner.Listing.{plain_step}
 use Rattle.lp_gen.specs.inner.Stacked.{IsStacked, stack_behind, AreStacked, stack_all}
 use Rattle.lp_gen.specs.inner.Using.{Uses, Lacks, AtMost}
 use Rattle.lp_gen.specs.inner.Works.{last_of, first_of}

@@ -17,10 +17,8 @@ use Rattle.lp_code.specs.Rules.{applies, built_types, has_count, is_no_term}
 use Rattle.lp_gen.specs.Sources.{types_by, IsKnownType, IsKnownAtom, IsKnownTerm}
 use Rattle.lp_gen.specs.Limits.{atom_strings, long_strings}
 use Rattle.lp_gen.proofs.ShortStrings.{string_short}
-use Rattle.lp_gen.specs.inner.Reading.{from_of, to_of}
+use Rattle.lp_gen.specs.Steps.{from_of, to_of, Step, make_constant, make_integer, make_text, make_index, make_variable, from_register, apply_last, abstract_last, Seen, Around, at_level, level_in, set_level, Listed, one_step, found_listed, level_listed, bound_listed, index_listed, atom_listed, type_or, bound_or, index_type, atom_function, Headed, as_head, with_argument, applied, abstracted, listed, headed}
 use Rattle.lp_gen.specs.inner.Running.{built_at}
-use Rattle.lp_gen.specs.inner.Listing.{Step, make_constant, make_integer, make_text, make_index, make_variable, from_register, apply_last, abstract_last, Seen, Around, at_level, level_in, set_level}
-use Rattle.lp_gen.specs.inner.Listing.{Listed, one_step, found_listed, level_listed, bound_listed, index_listed, atom_listed, type_or, bound_or, index_type, atom_function, Headed, as_head, with_argument, applied, abstracted, listed, headed}
 use Rattle.lp_gen.specs.inner.TermSteps.{Stack, stack, made_variable, last_built, before_last, step_built, IsFine, steps_built, AreFine}
 use Rattle.lp_gen.specs.inner.TermLaw.{SameSides, Asks, AsksConstants, Standing, IsShortAtom, KnownAtoms, AllLoose, IsSeen, level_term, index_term, with_variables, AreOf, AllOf, IsBuilt, SameAround, Made, Comes, ComesWith}
 use Rattle.lp_gen.proofs.Denoting.{held_set}

@@ -1,6 +1,6 @@
 -- How much the code of a type takes, by its pieces.
 use Rattle.std.proofs.Common.{◌≡◌, ◌∙◌, ◌⊎◌, inl, inr, ℕ, suc, ◌+◌, ◌*◌, ◌<◌, ◌≤◌, List, [], ◌∷◌, ◌++◌, length, ap, refl, sym, subst, arith}
-use Rattle.std.specs.Prelude.{map, sum_by, slice_index_or, Vec}
+use Rattle.std.specs.Prelude.{map, slice_index_or, Vec}
 use Rattle.std.specs.Global.{Global}
 use Rattle.std.proofs.lemmas.List.{map-append}
 use Rattle.std.proofs.lemmas.List.Sums.{sum_by-append}
@@ -14,9 +14,8 @@ use Rattle.lp_gen.specs.declared.fault.RecordRefusal.{RecordRefusal}
 use Rattle.lp_gen.specs.declared.fault.RecordRefusal.TheVariants as refusal
 use Rattle.lp_gen.specs.declared.written_types.TypeTask.{TypeTask}
 use Rattle.lp_gen.specs.declared.written_types.TypeTask.TheVariants as on
-use Rattle.lp_gen.specs.Registers.{Amount, both, type_code, count_types, kind_takes, type_takes, types_take}
+use Rattle.lp_gen.specs.Registers.{past, Amount, both, type_code, count_types, kind_takes, type_takes, types_take}
 use Rattle.lp_gen.specs.inner.Fitting.{misfits_of, IsRefused}
-use Rattle.lp_gen.specs.Limits.{past}
 use Rattle.lp_gen.specs.inner.Pieces.{Piece, type_con, type_arrow, piece, pieces, type_made, types_made}
 use Rattle.lp_gen.specs.inner.Reading.{read, read_at}
 use Rattle.lp_gen.specs.inner.Spending.{piece_bytes, piece_misfits, bytes_of, misfits_in, Spent, IsOver, Overflows}

@@ -1,5 +1,5 @@
 -- What is used by one function after another.
-use Rattle.std.proofs.Common.{◌≡◌, ◌⊎◌, inl, inr, ℕ, zero, suc, ◌+◌, ◌<◌, ◌≤◌, ◌∙◌, List, [], ◌∷◌, ◌++◌, length, take, ap, refl, sym, subst, arith}
+use Rattle.std.proofs.Common.{◌≡◌, ◌⊎◌, inl, inr, ℕ, zero, suc, ◌+◌, ◌<◌, ◌∙◌, List, [], ◌∷◌, ◌++◌, length, take, ap, refl, sym, subst, arith}
 use Rattle.std.specs.Prelude.{map, get_or}
 use Rattle.std.proofs.lemmas.List.{map-id, map-append}
 use Rattle.lp_calculus.specs.Types.{Ty}
@@ -9,7 +9,7 @@ use Rattle.lp_gen.specs.declared.fault.RecordRefusal.TheVariants as refusal
 use Rattle.lp_code.specs.declared.instruction.Instr.{Instr}
 use Rattle.lp_code.specs.Length.{length_of}
 use Rattle.lp_gen.specs.inner.Fitting.{misfits_of, IsRefused}
-use Rattle.lp_gen.specs.Registers.{Amount, nothing, both, plain_code, type_code, term_code, type_takes, all_take}
+use Rattle.lp_gen.specs.Registers.{Amount, nothing, both, plain_code, term_code, type_takes, all_take}
 use Rattle.lp_gen.specs.inner.Using.{Uses, HasNoRoom, for_types, for_terms, for_bytes, for_misfits, Lacks, room, memory, AtMost}
 
 pub uses_nothing : (e : Emitter) → Uses e e nothing

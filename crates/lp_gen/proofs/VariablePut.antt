@@ -20,7 +20,8 @@ use Rattle.lp_code.specs.Denote.{broken_by}
 use Rattle.lp_gen.specs.declared.emitter.Emitter.{Emitter}
 use Rattle.lp_gen.specs.declared.term_steps.TermStep.{TermStep}
 use Rattle.lp_gen.specs.declared.term_steps.TermStep.TheVariants as on
-use Rattle.lp_gen.specs.inner.Listing.{Step, make_constant, make_integer, make_text, make_index, make_variable, from_register, apply_last, abstract_last, plain_step}
+use Rattle.lp_gen.specs.Steps.{Step, make_constant, make_integer, make_text, make_index, make_variable, from_register, apply_last, abstract_last}
+use Rattle.lp_gen.specs.inner.Listing.{plain_step}
 use Rattle.lp_gen.specs.inner.Owned.{made_by}
 use Rattle.lp_gen.specs.inner.Running.{TypesStand, HasRoom, Hold, Moves, IsTypePut}
 use Rattle.lp_gen.specs.inner.TermSteps.{Stack, stack, made_variable, step_built, steps_built, StandIn, StepsPut}

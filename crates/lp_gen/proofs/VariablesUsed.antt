@@ -1,5 +1,5 @@
 -- What the code of a record's own variables takes.
-use Rattle.std.proofs.Common.{◌≡◌, ◌∙◌, ◌≤◌, ◌<◌, ◌⊎◌, inl, inr, ℕ, zero, suc, ◌+◌, ◌-◌, ◌*◌, ◌^◌, List, [], ◌∷◌, length, Bool, true, false, Option, Some, None, if◌then◌else◌, ap, refl, sym, subst, arith}
+use Rattle.std.proofs.Common.{◌≡◌, ◌∙◌, ◌≤◌, ◌<◌, ◌⊎◌, inl, inr, ℕ, zero, suc, ◌+◌, ◌-◌, ◌^◌, List, [], ◌∷◌, true, false, Some, if◌then◌else◌, ap, refl, sym, arith}
 use Rattle.std.specs.Prelude.{nat_le, min, slice_get}
 use Rattle.std.proofs.lemmas.Bool.{le-leb}
 use Rattle.lp_lemmas.proofs.Options.{one_value}
@@ -8,12 +8,12 @@ use Rattle.lp_code.specs.Length.{length_of}
 use Rattle.lp_gen.specs.declared.emitter.Emitter.{Emitter}
 use Rattle.lp_gen.specs.declared.fault.RecordRefusal.{RecordRefusal}
 use Rattle.lp_gen.specs.declared.fault.RecordRefusal.TheVariants as refusal
-use Rattle.lp_gen.specs.Registers.{Amount, nothing, both, plain_code, type_code, own_types_take, variables_take, made_takes, type_takes, unset_takes, unset_take}
+use Rattle.lp_gen.specs.Registers.{Amount, nothing, both, own_types_take, variables_take, made_takes, type_takes, unset_takes, unset_take}
 use Rattle.lp_gen.specs.inner.Fitting.{misfits_of, IsRefused}
-use Rattle.lp_gen.specs.inner.Listing.{Seen, Around, marked, at_level, set_level}
+use Rattle.lp_gen.specs.Steps.{Seen, Around, marked, at_level, set_level}
 use Rattle.lp_gen.specs.inner.Beginning.{IsSetAt}
-use Rattle.lp_gen.specs.inner.Using.{Uses, UsesUnset, Lacks, for_types, for_terms, for_bytes, room, memory, AtMost}
-use Rattle.lp_gen.proofs.Using.{uses_nothing, uses_both, uses_same, same_amount, lacks_behind, lacks_then, lacks_first, lacks_in, plain_said, no_plain_code}
+use Rattle.lp_gen.specs.inner.Using.{Uses, UsesUnset, Lacks, for_types, for_terms, for_bytes, room, memory}
+use Rattle.lp_gen.proofs.Using.{uses_nothing, uses_both, uses_same, same_amount, lacks_behind, lacks_then, lacks_in, plain_said, no_plain_code}
 
 -- type variables
 

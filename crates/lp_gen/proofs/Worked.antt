@@ -1,5 +1,5 @@
 -- The worked clause and query are within the limits.
-use Rattle.std.proofs.Common.{◌⊎◌, ◌<◌, inl, inr, ℕ, List, [], arith}
+use Rattle.std.proofs.Common.{◌<◌, inl, inr, ℕ, List, [], arith}
 use Rattle.lp_calculus.specs.Types.{Ty}
 use Rattle.lp_model.specs.Flat.{Atomic, clause, goals, no_goals}
 use Rattle.lp_gen.specs.Registers.{Amount, Passes, SomeOfClause, SomeOfQuery}

@@ -11,7 +11,7 @@ use Rattle.lp_code.specs.Denote.{key_is}
 use Rattle.lp_gen.specs.declared.plan.Origin.{Origin}
 use Rattle.lp_gen.specs.declared.plan.Origin.TheVariants as origin
 use Rattle.lp_gen.specs.declared.emitter.Emitter.{Emitter}
-use Rattle.lp_gen.specs.inner.Listing.{Seen, Around}
+use Rattle.lp_gen.specs.Steps.{Seen, Around}
 use Rattle.lp_gen.specs.inner.Owned.{makes}
 use Rattle.lp_gen.specs.inner.Entering.{news, TypesMade}
 use Rattle.lp_gen.specs.inner.BodyCode.{AreStarts}

@@ -1,4 +1,5 @@
 pub mod Sources
+pub mod Steps
 pub mod Limits
 pub mod Registers
 pub mod Contract

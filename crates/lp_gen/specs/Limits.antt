@@ -1,22 +1,21 @@
--- The limits that clauses pass whatever code they have: strings of at most 65,535 bytes, at most 255 arguments of a head and types of a constant, terms and blocks of
+-- The limits of clauses. Whatever code they have: strings of at most 65,535 bytes, at most 255 arguments of a head and types of a constant, terms and blocks of
 -- goals at most 2,000 deep (a `sigma` makes no block), and at most 65,535 records, one for each clause and one for each clause that is assumed in it, at any depth.
-use Rattle.std.specs.Prelude.{◌≡◌, ℕ, suc, ◌+◌, ◌<◌, ◌≤◌, nat_lt, if◌then◌else◌, List, length, Option, Some}
+-- And by their code: no record has more than 65,535 registers of one kind, or 2^32 bytes of code.
+use Rattle.std.specs.Prelude.{◌≡◌, ℕ, suc, ◌+◌, ◌<◌, ◌≤◌, List, map, length, Option, Some}
 use Rattle.lp_calculus.specs.Typing.{Scheme}
 use Rattle.lp_base.specs.declared.limit.Limit.TheVariants as limit
 use Rattle.lp_calculus.specs.Term.{Term, Atom, index, atom, abs, app, constant, integer, text, eigen, logic, param}
-use Rattle.lp_term.specs.Nodes.{Nodes}
+use Rattle.lp_term.specs.Nodes.{Nodes, type_tree}
 use Rattle.lp_model.specs.declared.program.Declared.{Declared}
 use Rattle.lp_model.specs.declared.program.Typed as program
 use Rattle.lp_model.specs.declared.clause.Goal as code_goal
 use Rattle.lp_model.specs.declared.clause.Clause as code_clause
-use Rattle.lp_model.specs.Flattened.{goals_of, clauses_of}
+use Rattle.lp_model.specs.Flattened.{clause_of, goals_of, clauses_of}
 use Rattle.lp_model.specs.Flat.{Goal, Goals, Clauses, Atomic, Cut, Either, Exists, Forall, Assume, Not, no_goals, goals, clause, no_clauses, clauses}
 use Rattle.lp_gen.specs.declared.fault.GenRefusal.{GenRefusal}
 use Rattle.lp_gen.specs.declared.fault.GenRefusal.TheVariants as refusal
-
--- 1 for each number that is past so many
-abbrev pub past : (most number : ℕ) → ℕ
-past m n = if nat_lt m n then 1 else 0
+use Rattle.lp_gen.specs.Steps.{constant_function}
+use Rattle.lp_gen.specs.Registers.{past, SomeOfClauses, SomeOfQuery}
 
 -- What is counted in terms, each thing by a number that is changed on the way to it: a node that is no application, and what an atom has besides; the number on the way to the head of an
 -- application, and to an argument of it or below an abstraction.
@@ -150,27 +149,35 @@ counts_of_goals gs = record {
 abbrev pub AreFew : Counts → Type 0
 AreFew n = (n.strings ≡ 0) × (n.arguments ≡ 0) × (n.nesting ≡ 0) × (n.records ≤ 65535)
 
--- the first limit that is passed is told: strings, arguments, nesting, records, registers
-abbrev pub IsTold : Counts → GenRefusal → Type 0
-IsTold n (refusal.Limit limit.Text) = 0 < n.strings
-IsTold n (refusal.Limit limit.Arguments) = (n.strings ≡ 0) × (0 < n.arguments)
-IsTold n (refusal.Limit limit.Nesting) = (n.strings ≡ 0) × (n.arguments ≡ 0) × (0 < n.nesting)
-IsTold n (refusal.Limit limit.Clauses) = (n.strings ≡ 0) × (n.arguments ≡ 0) × (n.nesting ≡ 0) × (65535 < n.records)
-IsTold n (refusal.Limit limit.Registers) = AreFew n
-IsTold n (refusal.Limit l) = ⊥
-IsTold n refusal.Memory = Unit {0}
+-- The first limit that is passed is told: strings, arguments, nesting, records, registers. `passes` says that some record passes what it may have.
+abbrev pub IsTold : Counts → (passes : Type 0) → GenRefusal → Type 0
+IsTold n P (refusal.Limit limit.Text) = 0 < n.strings
+IsTold n P (refusal.Limit limit.Arguments) = (n.strings ≡ 0) × (0 < n.arguments)
+IsTold n P (refusal.Limit limit.Nesting) = (n.strings ≡ 0) × (n.arguments ≡ 0) × (0 < n.nesting)
+IsTold n P (refusal.Limit limit.Clauses) = (n.strings ≡ 0) × (n.arguments ≡ 0) × (n.nesting ≡ 0) × (65535 < n.records)
+IsTold n P (refusal.Limit limit.Registers) = AreFew n × P
+IsTold n P (refusal.Limit l) = ⊥
+IsTold n P refusal.Memory = Unit {0}
+
+-- some record of clauses, or of a query, has more registers or code than it may have
+
+abbrev pub ClausesFull : Nodes → List Declared → List code_clause.Clause → Type 0
+ClausesFull b ds cs = SomeOfClauses (constant_function b ds) (map (clause_of b) cs)
+
+abbrev pub QueryFull : Nodes → List Declared → program.Typed → List code_goal.Goal → Type 0
+QueryFull b ds q gs = SomeOfQuery (constant_function b ds) q.type_vars (map (λ v. type_tree b v.1.0) q.vars.items) (goals_of b gs)
 
 abbrev pub ClausesPass : Nodes → List Declared → List code_clause.Clause → GenRefusal → Type 0
-ClausesPass b ds cs e = IsTold (counts_of_clauses (clauses_of b cs)) e
+ClausesPass b ds cs e = IsTold (counts_of_clauses (clauses_of b cs)) (ClausesFull b ds cs) e
 
 abbrev pub ClausesWithin : Nodes → List Declared → List code_clause.Clause → Type 0
-ClausesWithin b ds cs = AreFew (counts_of_clauses (clauses_of b cs))
+ClausesWithin b ds cs = AreFew (counts_of_clauses (clauses_of b cs)) × (ClausesFull b ds cs → ⊥)
 
 abbrev pub QueryPasses : Nodes → List Declared → program.Typed → List code_goal.Goal → GenRefusal → Type 0
-QueryPasses b ds q gs e = IsTold (counts_of_goals (goals_of b gs)) e
+QueryPasses b ds q gs e = IsTold (counts_of_goals (goals_of b gs)) (QueryFull b ds q gs) e
 
 abbrev pub QueryWithin : Nodes → List Declared → program.Typed → List code_goal.Goal → Type 0
-QueryWithin b ds q gs = AreFew (counts_of_goals (goals_of b gs))
+QueryWithin b ds q gs = AreFew (counts_of_goals (goals_of b gs)) × (QueryFull b ds q gs → ⊥)
 
 -- limits of code alone: the others are not passed by clauses of which there is code
 abbrev pub IsOfCode : GenRefusal → Type 0

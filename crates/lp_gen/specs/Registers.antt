@@ -1,6 +1,6 @@
 -- What the code of a record takes: registers of types and of terms, and bytes. Each node of a type but a variable takes a register of types, each time that it is written, and each node of
 -- a term that is built one of terms; the steps of a term say which are built.
-use Rattle.std.specs.Prelude.{◌⊎◌, ℕ, zero, suc, ◌+◌, ◌*◌, ◌<◌, nat_eq, Bool, true, false, ◌||◌, if◌then◌else◌, min, List, [], ◌∷◌, ◌++◌, reverse, length, Option, Some, None, option_and_then}
+use Rattle.std.specs.Prelude.{◌⊎◌, ℕ, zero, suc, ◌+◌, ◌-◌, ◌*◌, ◌<◌, nat_lt, nat_eq, Bool, true, false, ◌||◌, if◌then◌else◌, min, List, [], ◌∷◌, ◌++◌, reverse, length, Option, Some, None, option_and_then}
 use Rattle.lp_calculus.specs.Types.{Ty, Tys, var, param as type_param, con, arrow, no_types, types}
 use Rattle.lp_calculus.specs.Term.{Term, Atom, index, atom, abs, app, constant, integer, text, eigen, logic, param}
 use Rattle.lp_calculus.specs.Typing.{o_type}
@@ -9,10 +9,11 @@ use Rattle.lp_standard.specs.Constants.{numbered}
 use Rattle.lp_standard.specs.declared.constant.Constant.{Constant}
 use Rattle.lp_standard.specs.declared.constant.Constant.TheVariants as standard
 use Rattle.lp_model.specs.Flat.{Goal, Goals, Clause, Clauses, Atomic, Cut, Either, Exists, Forall, Assume, Not, no_goals, goals, clause, no_clauses, clauses}
-use Rattle.lp_gen.specs.Limits.{past}
-use Rattle.lp_gen.specs.inner.Reading.{from_of, to_of}
-use Rattle.lp_gen.specs.inner.Listing.{Step, make_constant, make_integer, make_text, make_index, make_variable, from_register, apply_last, abstract_last, Seen, Around, at_level, set_level, listed, head_type}
-use Rattle.lp_gen.specs.inner.Heading.{first_place}
+use Rattle.lp_gen.specs.Steps.{from_of, to_of, Step, make_constant, make_integer, make_text, make_index, make_variable, from_register, apply_last, abstract_last, Seen, Around, at_level, set_level, listed, head_type, first_place}
+
+-- 1 for each number that is past so many
+abbrev pub past : (most number : ℕ) → ℕ
+past m n = if nat_lt m n then 1 else 0
 
 -- registers and bytes, and how many lists and numbers have no room in an instruction: a list of more than 255 types or terms, an index past 65,535 and an argument past the 256th. Where
 -- the limits that are looked at first are not passed, only a kind on more than 255 types is left of these
@@ -274,23 +275,20 @@ abbrev mutual
   in_clauses i no_clauses = false
   in_clauses i (clauses (clause n vs h b) cs) = in_term (i + length vs) h || (in_goals (i + length vs) b || in_clauses i cs)
 
--- how many of the variables around clauses stand in them
-abbrev pub count_standing : (around : ℕ) → Clauses → ℕ
-count_standing zero cs = 0
-count_standing (suc n) cs = (if in_clauses n cs then 1 else 0) + count_standing n cs
-
 abbrev pub count_clauses : Clauses → ℕ
 count_clauses no_clauses = 0
 count_clauses (clauses c cs) = suc (count_clauses cs)
 
--- the variables of a record in its body are set, and it starts with those around it; their registers are left out
+-- What stands around goals. Registers are left out: the amounts do not depend on them.
 
 abbrev pub count_variables : Around → ℕ
 count_variables a = a.base + length a.own
 
+-- one variable more, that of a quantifier
 abbrev pub with_variable : Around → Ty → Around
 with_variable a T = record { own = a.own ++ record { register = 0; of = T; is_set = true } ∷ []; base = a.base; captured = a.captured }
 
+-- in the body of a record its variables are set
 abbrev pub all_set : List Seen → List Seen
 all_set [] = []
 all_set (v ∷ vs) = record { register = v.register; of = v.of; is_set = true } ∷ all_set vs
@@ -298,16 +296,49 @@ all_set (v ∷ vs) = record { register = v.register; of = v.of; is_set = true } 
 abbrev pub in_body : Around → Around
 in_body a = record { own = all_set a.own; base = a.base; captured = a.captured }
 
--- those of a clause, index 0 the last one, and of a query, below these
+-- a `sigma` reaches to the end of its list of goals, each other block to its own end
+abbrev mutual
+  pub behind_goal : Around → Goal → Around
+  behind_goal a (Atomic t) = a
+  behind_goal a Cut = a
+  behind_goal a (Either gs hs) = a
+  behind_goal a (Exists T gs) = behind_goals (with_variable a T) gs
+  behind_goal a (Forall T gs) = a
+  behind_goal a (Assume w cs gs) = a
+  behind_goal a (Not w gs) = a
+
+  pub behind_goals : Around → Goals → Around
+  behind_goals a no_goals = a
+  behind_goals a (goals g gs) = behind_goals (behind_goal a g) gs
+
+-- What a record starts with, and its own variables, which are not set: those of a clause by index, 0 the last one, so that the list of types is turned.
+
+abbrev pub nothing_around : Around
+nothing_around = record { own = []; base = 0; captured = λ l. None }
+
 abbrev pub unset : List Ty → List Seen
 unset [] = []
 unset (T ∷ Ts) = record { register = 0; of = T; is_set = false } ∷ unset Ts
 
-abbrev pub below : Around → List Ty → Around
-below a Ts = record { own = unset (reverse Ts); base = count_variables a; captured = at_level a }
+abbrev pub with_unset : Around → List Ty → Around
+with_unset s Ts = record { own = unset (reverse Ts); base = s.base; captured = s.captured }
 
-abbrev pub nothing_around : Around
-nothing_around = record { own = []; base = 0; captured = λ l. None }
+-- records of clauses that are assumed here start with the variables around that stand in these clauses
+abbrev pub start_of : Around → Clauses → Around
+start_of a cs = record { own = []; base = count_variables a; captured = λ l. if in_clauses (count_variables a - l - 1) cs then at_level a l else None }
+
+-- how many of these there are
+
+abbrev pub one_given : Option Seen → ℕ
+one_given None = 0
+one_given (Some v) = 1
+
+abbrev pub count_given : (ℕ → Option Seen) → (levels : ℕ) → ℕ
+count_given f zero = 0
+count_given f (suc l) = one_given (f l) + count_given f l
+
+abbrev pub count_standing : Around → Clauses → ℕ
+count_standing a cs = count_given (start_of a cs).captured (count_variables a)
 
 -- a new variable: its type and its register, by an instruction of five bytes
 abbrev pub variable_takes : Ty → Amount
@@ -324,28 +355,28 @@ abbrev mutual
   goal_takes K v a (Either gs hs) = both (plain_code 5 0) (both (goals_take K v a gs) (both (plain_code 5 0) (goals_take K v a hs)))
   goal_takes K v a (Exists T gs) = both (variable_takes T) (goals_take K v (with_variable a T) gs)
   goal_takes K v a (Forall T gs) = both (variable_takes T) (both (goals_take K v (with_variable a T) gs) (plain_code 1 0))
-  goal_takes K v a (Assume w cs gs) = both (assume_takes v (count_standing (count_variables a) cs) (count_clauses cs)) (both (goals_take K v a gs) (plain_code 1 0))
+  goal_takes K v a (Assume w cs gs) = both (assume_takes v (count_standing a cs) (count_clauses cs)) (both (goals_take K v a gs) (plain_code 1 0))
   goal_takes K v a (Not w gs) = both (plain_code 1 0) (both (goals_take K v a gs) (plain_code 1 0))
 
   pub goals_take : (constants : ℕ → List Ty → Ty) → (type_vars : ℕ) → Around → Goals → Amount
   goals_take K v a no_goals = nothing
-  goals_take K v a (goals g gs) = both (goal_takes K v a g) (goals_take K v a gs)
+  goals_take K v a (goals g gs) = both (goal_takes K v a g) (goals_take K v (behind_goal a g) gs)
 
 -- a record behind what it starts with: the variables that do not stand in the head, NECK, the body, PROCEED
 abbrev pub body_takes : (constants : ℕ → List Ty → Ty) → (type_vars : ℕ) → Around → Goals → Amount
 body_takes K v a b = both (unset_take a.own) (both (plain_code 1 0) (both (goals_take K v (in_body a) b) (plain_code 1 0)))
 
-abbrev pub clause_takes : (constants : ℕ → List Ty → Ty) → (type_vars : ℕ) → Around → (vars : List Ty) → (head : Term) → Goals → Amount
-clause_takes K v a vs h b = both (variables_take (length vs)) (both (head_takes K (below a vs) h) (body_takes K v (behind_head K (below a vs) h) b))
+abbrev pub clause_takes : (constants : ℕ → List Ty → Ty) → (type_vars : ℕ) → (start : Around) → (vars : List Ty) → (head : Term) → Goals → Amount
+clause_takes K v s vs h b = both (variables_take (length vs)) (both (head_takes K (with_unset s vs) h) (body_takes K v (behind_head K (with_unset s vs) h) b))
 
 abbrev pub query_takes : (constants : ℕ → List Ty → Ty) → (type_vars : ℕ) → (vars : List Ty) → Goals → Amount
-query_takes K v vs b = both (own_types_take v) (both (variables_take (length vs)) (body_takes K v (below nothing_around vs) b))
+query_takes K v vs b = both (own_types_take v) (both (variables_take (length vs)) (body_takes K v (with_unset nothing_around vs) b))
 
 -- the registers that a record starts with
 abbrev pub started : (types terms : ℕ) → Amount
 started n k = record { types = n; terms = k; bytes = 0; misfits = 0 }
 
--- some record passes what it may have: of clauses that are assumed where these variables are around, or of those that goals assume
+-- some record passes what it may have: of clauses that are assumed and start so, or of those that goals assume
 abbrev mutual
   pub SomeOfGoal : (constants : ℕ → List Ty → Ty) → (type_vars : ℕ) → Around → Goal → Type 0
   SomeOfGoal K v a (Atomic t) = ⊥
@@ -353,22 +384,26 @@ abbrev mutual
   SomeOfGoal K v a (Either gs hs) = SomeOfGoals K v a gs ⊎ SomeOfGoals K v a hs
   SomeOfGoal K v a (Exists T gs) = SomeOfGoals K v (with_variable a T) gs
   SomeOfGoal K v a (Forall T gs) = SomeOfGoals K v (with_variable a T) gs
-  SomeOfGoal K v a (Assume w cs gs) = SomeAssumed K v a (count_standing (count_variables a) cs) cs ⊎ SomeOfGoals K v a gs
+  SomeOfGoal K v a (Assume w cs gs) = SomeAssumed K v (start_of a cs) cs ⊎ SomeOfGoals K v a gs
   SomeOfGoal K v a (Not w gs) = SomeOfGoals K v a gs
 
   pub SomeOfGoals : (constants : ℕ → List Ty → Ty) → (type_vars : ℕ) → Around → Goals → Type 0
   SomeOfGoals K v a no_goals = ⊥
-  SomeOfGoals K v a (goals g gs) = SomeOfGoal K v a g ⊎ SomeOfGoals K v a gs
+  SomeOfGoals K v a (goals g gs) = SomeOfGoal K v a g ⊎ SomeOfGoals K v (behind_goal a g) gs
 
-  pub SomeAssumed : (constants : ℕ → List Ty → Ty) → (type_vars : ℕ) → Around → (captured : ℕ) → Clauses → Type 0
-  SomeAssumed K v a k no_clauses = ⊥
-  SomeAssumed K v a k (clauses (clause n vs h b) cs) =
-      Passes (both (started v k) (clause_takes K v a vs h b)) ⊎ (SomeOfGoals K v (in_body (below a vs)) b ⊎ SomeAssumed K v a k cs)
+  pub SomeAssumed : (constants : ℕ → List Ty → Ty) → (type_vars : ℕ) → (start : Around) → Clauses → Type 0
+  SomeAssumed K v s no_clauses = ⊥
+  SomeAssumed K v s (clauses (clause n vs h b) cs) =
+      Passes (both (started v (count_given s.captured s.base)) (clause_takes K v s vs h b)) ⊎ (SomeOfGoals K v (in_body (with_unset s vs)) b ⊎ SomeAssumed K v s cs)
 
 -- the record of a clause of a program, or one of those assumed in it
 abbrev pub SomeOfClause : (constants : ℕ → List Ty → Ty) → Clause → Type 0
-SomeOfClause K (clause v vs h b) = Passes (both (own_types_take v) (clause_takes K v nothing_around vs h b)) ⊎ SomeOfGoals K v (in_body (below nothing_around vs)) b
+SomeOfClause K (clause v vs h b) = Passes (both (own_types_take v) (clause_takes K v nothing_around vs h b)) ⊎ SomeOfGoals K v (in_body (with_unset nothing_around vs)) b
+
+abbrev pub SomeOfClauses : (constants : ℕ → List Ty → Ty) → List Clause → Type 0
+SomeOfClauses K [] = ⊥
+SomeOfClauses K (c ∷ cs) = SomeOfClause K c ⊎ SomeOfClauses K cs
 
 -- that of a query, the outermost of its variables the first one, or one of those assumed in it
 abbrev pub SomeOfQuery : (constants : ℕ → List Ty → Ty) → (type_vars : ℕ) → (vars : List Ty) → Goals → Type 0
-SomeOfQuery K v vs b = Passes (query_takes K v (reverse vs) b) ⊎ SomeOfGoals K v (in_body (below nothing_around (reverse vs))) b
+SomeOfQuery K v vs b = Passes (query_takes K v (reverse vs) b) ⊎ SomeOfGoals K v (in_body (with_unset nothing_around (reverse vs))) b

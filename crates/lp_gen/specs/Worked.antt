@@ -3,7 +3,7 @@ use Rattle.std.specs.Prelude.{◌≡◌, ℕ, List, []}
 use Rattle.lp_calculus.specs.Types.{Ty}
 use Rattle.lp_calculus.specs.Term.{Term, atom, app, constant}
 use Rattle.lp_model.specs.Flat.{Atomic, clause, goals, no_goals}
-use Rattle.lp_gen.specs.Registers.{Amount, plain_code, clause_takes, query_takes, nothing_around, SomeOfClause, SomeOfQuery}
+use Rattle.lp_gen.specs.Registers.{plain_code, clause_takes, query_takes, nothing_around, SomeOfClause, SomeOfQuery}
 
 abbrev pub worked_atom : Term
 worked_atom = app (atom (constant 33 [])) (atom (constant 32 []))

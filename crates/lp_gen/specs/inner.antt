@@ -2,6 +2,7 @@ pub mod Alike
 pub mod Beginning
 pub mod Bodies
 pub mod BodyCode
+pub mod BodyUsing
 pub mod BodyLaw
 pub mod Capturing
 pub mod Doing

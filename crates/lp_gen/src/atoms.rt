@@ -3,7 +3,8 @@ ghost use Rattle.std.specs.Prelude.{OnOk, IfErr};
 ghost use Rattle.lp_gen.specs.Registers.{atom_takes};
 ghost use Rattle.lp_gen.specs.inner.Using.{Uses, Lacks};
 ghost use Rattle.lp_term.specs.Nodes.{tree};
-ghost use Rattle.lp_gen.specs.inner.Listing.{around_of, constant_function};
+ghost use Rattle.lp_gen.specs.Steps.{constant_function};
+ghost use Rattle.lp_gen.specs.inner.Listing.{around_of};
 ghost use Rattle.lp_gen.specs.inner.Doing.{AtomWritten};
 
 use crate::calls::{put_call, put_term_call};

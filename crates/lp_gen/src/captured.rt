@@ -1,5 +1,6 @@
 // The variables around assumed clauses that stand in them.
-ghost use Rattle.std.specs.Prelude.{◌≡◌, ℕ, Bool, List, ◌<◌, ◌≤◌, ◌+◌, ◌-◌, ◌*◌, true, None, IfOk, IfSome, OnOk};
+ghost use Rattle.std.specs.Prelude.{◌≡◌, ℕ, nat_eq, Bool, List, ◌<◌, ◌≤◌, ◌+◌, ◌-◌, ◌*◌, true, None, IfOk, IfSome, OnOk};
+ghost use Rattle.std.specs.List.{IsDistinct};
 ghost use Rattle.lp_term.specs.Nodes.{tree};
 ghost use Rattle.lp_term.specs.Walk.{size};
 ghost use Rattle.lp_model.specs.Flat.{clauses, no_clauses};
@@ -46,6 +47,7 @@ fn mark(levels: &mut IndexSet<u64>, base: u64, index: u64) -> Result<(), Memory>
     ensures old { OnOk result ((k : ℕ) → member k levels.old.keys ≡ true → member k levels.new.keys ≡ true) }
     ensures new { OnOk result (IsAmong base levels.new.keys index) }
     ensures found { OnOk result ((p : ℕ → Bool) → p index ≡ true → AreFound base p levels.old.keys levels.new.keys) }
+    ensures distinct { OnOk result (IsDistinct nat_eq levels.old.keys → IsDistinct nat_eq levels.new.keys) }
 {
     if index >= base {
         return Ok(());
@@ -65,6 +67,7 @@ fn visit_term<'a>(
     ensures less { OnOk result (place_work bank.now work.new.items + 1 ≤ place_work bank.now work.old.items + 4 * size (tree bank.now term.0)) }
     ensures marks { OnOk result (Marks bank.now base levels.old.keys levels.new.keys work.old.items work.new.items (on.Term term depth)) }
     ensures finds { OnOk result (Finds bank.now base levels.old.keys levels.new.keys work.old.items work.new.items (on.Term term depth)) }
+    ensures distinct { OnOk result (IsDistinct nat_eq levels.old.keys → IsDistinct nat_eq levels.new.keys) }
 {
     match bank.term_node(term) {
         TermNode::Index(index) => {
@@ -160,6 +163,7 @@ fn take_up<'a>(
     ensures less { OnOk result (place_work bank.now work.new.items + 1 ≤ place_work bank.now work.old.items + place_task bank.now place.entry) }
     ensures marks { OnOk result (Marks bank.now base levels.old.keys levels.new.keys work.old.items work.new.items place.entry) }
     ensures finds { OnOk result (Finds bank.now base levels.old.keys levels.new.keys work.old.items work.new.items place.entry) }
+    ensures distinct { OnOk result (IsDistinct nat_eq levels.old.keys → IsDistinct nat_eq levels.new.keys) }
 {
     match place {
         Place::Clauses(clauses, depth) => {
@@ -202,6 +206,7 @@ pub(crate) fn captured_of(
 ) -> Result<IndexSet<u64>, Memory>
     ensures all { IfOk result (λ levels. AllThrough (AllLoose (IsAmong base levels.keys)) 0 (clauses_of bank.now clauses.now)) }
     ensures found { IfOk result (λ levels. (p : ℕ → Bool) → AllThrough (AllLoose (IsSo p)) 0 (clauses_of bank.now clauses.now) → (k : ℕ) → member k levels.keys ≡ true → IsLevelOf base p k) }
+    ensures distinct { IfOk result (λ levels. IsDistinct nat_eq levels.keys) }
 {
     let mut levels = IndexSet::new(alloc);
     let mut work = Vec::new(alloc);

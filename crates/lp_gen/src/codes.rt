@@ -1,20 +1,22 @@
 // The code of clauses and queries.
-ghost use Rattle.std.specs.Prelude.{◌≡◌, ℕ, List, [], ◌++◌, ◌+◌, ◌<◌, ◌≤◌, ◌^◌, All, length, sum_by, IfOk, IfErr, OnOk};
+ghost use Rattle.std.specs.Prelude.{◌≡◌, ℕ, List, [], ◌++◌, ◌+◌, ◌-◌, ◌<◌, ◌≤◌, ◌^◌, All, length, sum_by, IfOk, IfErr, OnOk};
 ghost use Rattle.lp_code.specs.declared.record.Record.{Record};
 ghost use Rattle.lp_code.specs.Length.{length_of, AllFit};
 ghost use Rattle.lp_gen.specs.Contract.{DenotesClauses, DenotesQuery, ReadyClauses, ReadyQuery};
 ghost use Rattle.lp_gen.specs.Limits.{ClausesPass, ClausesWithin, QueryPasses, QueryWithin};
 ghost use Rattle.lp_gen.specs.inner.Limiting.{IsOfPlan};
 ghost use Rattle.lp_gen.specs.inner.Planning.{origin_records, most_of};
-ghost use Rattle.lp_gen.specs.inner.Groups.{Kept, IsStartOf, AllWritten, IsGroup};
+ghost use Rattle.lp_gen.specs.inner.Groups.{Kept, IsStartOf, AllWritten, PartFull, OriginFull, IsGroup};
+ghost use Rattle.lp_gen.specs.inner.Fitting.{IsRefused};
+ghost use Rattle.lp_gen.specs.declared.fault.GenRefusal.TheVariants as told;
+ghost use Rattle.lp_base.specs.declared.limit.Limit.TheVariants as limit;
 
 use crate::fault::{GenRefusal, RecordRefusal};
 use crate::limits::{Source, check_limits};
 use crate::plan::{Origin, Part, Plan};
-use crate::record::{Starts, number_of, record_of};
+use crate::record::{Starts, count_of_registers, number_of, record_of};
 use crate::tables::Tables;
 use indexmap::IndexMap;
-use lp_base::Limit;
 use lp_code::{Code, Record};
 use lp_model::{Clause, Declared, Goal, Typed};
 use lp_term::Bank;
@@ -44,6 +46,7 @@ fn add_parts(
     requires short { All (λ r. sum_by length_of r.code.items < 2 ^ 32) records.old.items }
     ensures fit { OnOk result (AllFit records.new.items) }
     ensures short { OnOk result (All (λ r. sum_by length_of r.code.items < 2 ^ 32) records.new.items) }
+    ensures lacks { IfErr result (IsRefused (PartFull tables.entry parts.now)) }
     ensures written { OnOk result ((g : List Record) × (xs : List Kept) × (records.new.items ≡ records.old.items ++ g) × AllWritten tables.entry [] xs parts.now g) }
 {
     let none = IndexMap::new(alloc);
@@ -76,10 +79,10 @@ fn add(
     ensures count { OnOk result (length records.new.items ≡ length records.old.items + origin_records bank.now origin.entry) }
     ensures within { OnOk result (origin_records bank.now origin.entry ≤ most_of origin.entry) }
     ensures cause { IfErr result (IsOfPlan (origin_records bank.now origin.entry) (most_of origin.entry)) }
+    ensures fits { length records.old.items + origin_records bank.now origin.entry < 2 ^ 32 - 1 → OnOk result (OriginFull bank.now constants.now type_vars origin.entry → ⊥) }
+    ensures full { length records.old.items + origin_records bank.now origin.entry < 2 ^ 32 - 1 → IfErr result (λ e. e ≡ told.Limit limit.Registers → OriginFull bank.now constants.now type_vars origin.entry) }
 {
-    let Ok(type_vars) = u16::try_from(type_vars) else {
-        return Err(GenRefusal::Limit(Limit::Registers));
-    };
+    let type_vars = count_of_registers(type_vars)?;
     let plan = Plan::of(alloc, bank, origin)?;
     let tables = Tables {
         bank,

@@ -3,7 +3,7 @@ ghost use Rattle.std.specs.Prelude.{◌≡◌, ◌⊎◌, ℕ, ◌<◌, ◌≤�
 ghost use Rattle.lp_code.specs.declared.instruction.Instr.{Instr};
 ghost use Rattle.lp_code.specs.declared.instruction.Instr.TheVariants as on;
 ghost use Rattle.lp_code.specs.Length.{length_of};
-ghost use Rattle.lp_gen.specs.Limits.{past};
+ghost use Rattle.lp_gen.specs.Registers.{past};
 ghost use Rattle.lp_gen.specs.inner.Fitting.{is_fitting, is_short, misfits_of, IsRefused};
 
 use crate::fault::RecordRefusal;
@@ -86,6 +86,22 @@ impl Emitter {
             types,
             registers,
         }
+    }
+
+    /// How many type registers there are.
+    pub(crate) fn count_types(&self) -> u16
+        ensures count { result ≡ self.now.types }
+        ensures few { self.now.types ≤ 65535 }
+    {
+        self.types
+    }
+
+    /// How many registers there are.
+    pub(crate) fn count_terms(&self) -> u16
+        ensures count { result ≡ self.now.registers }
+        ensures few { self.now.registers ≤ 65535 }
+    {
+        self.registers
     }
 
     /// The next type register.

@@ -1,7 +1,8 @@
 // The variables of a record, by their levels: that of a variable is the number of variables around it.
 ghost use Rattle.std.specs.Prelude.{◌≡◌, ℕ, [], ◌+◌, ◌-◌, ◌^◌, min, length, option_map, OnOk};
 ghost use Rattle.lp_term.specs.Nodes.{Nodes};
-ghost use Rattle.lp_gen.specs.inner.Listing.{seen, around_of, level_in, level_below, at_level, set_level};
+ghost use Rattle.lp_gen.specs.Steps.{level_in, level_below, at_level, set_level};
+ghost use Rattle.lp_gen.specs.inner.Listing.{seen, around_of};
 ghost use Rattle.lp_gen.specs.inner.Bodies.{pushed};
 ghost use Rattle.lp_gen.specs.inner.BodyCode.{started_at};
 

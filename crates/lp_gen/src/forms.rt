@@ -3,7 +3,7 @@ ghost use Rattle.std.specs.Prelude.{length, map, IfOk, OnOk, IfErr};
 ghost use Rattle.lp_term.specs.Nodes.{type_tree};
 ghost use Rattle.lp_gen.specs.inner.Reading.{read};
 ghost use Rattle.lp_gen.specs.Registers.{step_takes};
-ghost use Rattle.lp_gen.specs.inner.Listing.{make_constant, make_integer, make_text, make_index, apply_last, abstract_last};
+ghost use Rattle.lp_gen.specs.Steps.{make_constant, make_integer, make_text, make_index, apply_last, abstract_last};
 ghost use Rattle.lp_gen.specs.inner.Using.{Uses, Lacks};
 ghost use Rattle.lp_gen.specs.inner.Running.{ConstantPut, IntegerPut, TextPut, IndexPut, ApplicationPut, AbstractionPut};
 

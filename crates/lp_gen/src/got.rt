@@ -1,7 +1,6 @@
 // The parts of a head as they are matched, where they stand in registers or have no parts.
 ghost use Rattle.std.specs.Prelude.{◌≡◌, ◌+◌, ◌*◌, true, length, nat_lt, OnOk, IfErr};
-ghost use Rattle.lp_gen.specs.Limits.{past};
-ghost use Rattle.lp_gen.specs.Registers.{plain_code};
+ghost use Rattle.lp_gen.specs.Registers.{past, plain_code};
 ghost use Rattle.lp_gen.specs.inner.Using.{Uses, Lacks};
 ghost use Rattle.lp_gen.specs.inner.Heading.{VariableGot};
 ghost use Rattle.lp_gen.specs.inner.Saying.{ConstantGot, IntegerGot, TextGot, TermGot, TypeGot};

@@ -8,8 +8,9 @@ ghost use Rattle.lp_code.specs.Denote.{key_is};
 ghost use Rattle.lp_gen.specs.inner.Recorded.{key_in, first_key_of};
 ghost use Rattle.lp_term.specs.Nodes.{tree, type_tree};
 ghost use Rattle.lp_gen.specs.inner.Reading.{read};
-ghost use Rattle.lp_gen.specs.inner.Listing.{around_of, constant_function, head_type};
-ghost use Rattle.lp_gen.specs.inner.Heading.{first_place, predicate_of, ArgumentGot, ArgumentsGot, TypesGot, HeadMatched};
+ghost use Rattle.lp_gen.specs.Steps.{constant_function, head_type, first_place};
+ghost use Rattle.lp_gen.specs.inner.Listing.{around_of};
+ghost use Rattle.lp_gen.specs.inner.Heading.{predicate_of, ArgumentGot, ArgumentsGot, TypesGot, HeadMatched};
 
 use crate::emitter::Emitter;
 use crate::environment::Environment;

@@ -5,7 +5,7 @@ ghost use Rattle.lp_model.specs.Flat.{Goals};
 ghost use Rattle.lp_gen.specs.Registers.{goals_take};
 ghost use Rattle.lp_gen.specs.Worked.{AreWorked};
 ghost use Rattle.lp_gen.specs.inner.Alike.{IsAlike};
-ghost use Rattle.lp_gen.specs.inner.Listing.{Around};
+ghost use Rattle.lp_gen.specs.Steps.{Around};
 
 /// The clause and the query of the profile's worked image take what their bytes show.
 pub fn worked_records_take()

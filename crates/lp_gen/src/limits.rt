@@ -6,7 +6,8 @@ ghost use Rattle.lp_term.specs.Nodes.{tree};
 ghost use Rattle.lp_term.specs.Walk.{size};
 ghost use Rattle.lp_model.specs.Flat.{clauses, no_clauses};
 ghost use Rattle.lp_model.specs.Flattened.{goal_of, clause_of};
-ghost use Rattle.lp_gen.specs.Limits.{past, goal_counts, clauses_counts, AreFew, IsTold};
+ghost use Rattle.lp_gen.specs.Registers.{past};
+ghost use Rattle.lp_gen.specs.Limits.{goal_counts, clauses_counts, AreFew, IsTold};
 ghost use Rattle.lp_gen.specs.inner.Capturing.{goal_size, clause_size};
 ghost use Rattle.lp_gen.specs.inner.Limiting.{nodes_of, counting_of, limit_of, strict, IsOver, times, TermsOver, GoalsOver, source_counts, IsMet, source_task, source_work, counts_of_source};
 
@@ -375,7 +376,7 @@ fn check(
 /// Refuses clauses or goals that pass one of these limits: the first that is passed, of strings, arguments, nesting and records.
 pub(crate) fn check_limits(alloc: Global, bank: &Bank, source: Source<'_>) -> Result<(), GenRefusal>
     ensures within { OnOk result (AreFew (counts_of_source bank.now source.entry)) }
-    ensures cause { IfErr result (IsTold (counts_of_source bank.now source.entry)) }
+    ensures cause { IfErr result (IsTold (counts_of_source bank.now source.entry) ⊥) }
 {
     check(alloc, bank, Look::Strings, 0, source)?;
     check(alloc, bank, Look::Arguments, 0, source)?;

@@ -5,7 +5,8 @@ ghost use Rattle.lp_term.specs.Nodes.{Nodes, tree};
 ghost use Rattle.lp_term.specs.Walk.{size};
 ghost use Rattle.lp_gen.specs.inner.Reading.{read};
 ghost use Rattle.lp_gen.specs.inner.Sizes.{term_task, term_work};
-ghost use Rattle.lp_gen.specs.inner.Listing.{plain_step, around_of, level_listed, level_in, index_listed, node_listed, index_type, read_function, constant_function, head_type, listed};
+ghost use Rattle.lp_gen.specs.Steps.{level_listed, level_in, index_listed, index_type, constant_function, head_type, listed};
+ghost use Rattle.lp_gen.specs.inner.Listing.{plain_step, around_of, node_listed, read_function};
 ghost use Rattle.lp_gen.specs.inner.Tasks.{Adds, Course, course, act, done};
 ghost use Rattle.lp_gen.specs.declared.listing.Task.TheVariants as on;
 

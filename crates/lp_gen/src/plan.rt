@@ -7,7 +7,7 @@ ghost use Rattle.lp_gen.specs.inner.Variables.{OriginFits, DueFits, StaysLeveled
 ghost use Rattle.lp_gen.specs.declared.fault.GenRefusal.TheVariants as told;
 ghost use Rattle.lp_gen.specs.declared.fault.RecordRefusal.TheVariants as refusal;
 ghost use Rattle.lp_base.specs.declared.limit.Limit.TheVariants as limit;
-ghost use Rattle.lp_gen.specs.inner.Planning.{AreDue, origin_records, most_of, body_of, todo_of, todos, due_goals, due_end, due_level, IsAssumed, WalkKept, PartWalked, ArePlanned, AllCaptured};
+ghost use Rattle.lp_gen.specs.inner.Planning.{AreDue, origin_records, most_of, body_of, todo_of, todos, due_goals, due_end, IsAssumed, WalkKept, PartWalked, ArePlanned, AllCaptured};
 ghost use Rattle.lp_gen.specs.declared.plan.Due.{Due};
 ghost use Rattle.lp_gen.specs.declared.plan.Step.TheVariants as on;
 
@@ -81,12 +81,11 @@ pub(crate) struct Plan<'a> {
     pub assumptions: Vec<Assumption<'a>>,
 }
 
-// What is still to be done, the next one last. An end restores the number of variables, that of a `sigma` without a step.
+// What is still to be done, the next one last. An end restores the number of variables; the variable of a `sigma` is there up to the end of the block around it.
 #[derive(Clone, Copy)]
 enum Task<'a> {
     Goals(&'a [Goal]),
     End(Step, u64),
-    Level(u64),
 }
 
 // The goals of a record in the making.
@@ -181,10 +180,10 @@ impl<'a> Walk<'a> {
         Ok(())
     }
 
-    // The goals of a `sigma`, behind which its variable is not known.
+    // The goals of a `sigma`.
     fn put_some(&mut self, of: TypeId, goals: &'a [Goal]) -> Result<(), RecordRefusal>
-        ensures work { OnOk result (goal_work self.new.tasks.items ≡ goal_work self.old.tasks.items + 1 + goals_weigh (map goal_weighs goals.now)) }
-        ensures todo { OnOk result (todos self.new.tasks.items ≡ due_goals goals.now ∷ due_level self.old.level ∷ todos self.old.tasks.items) }
+        ensures work { OnOk result (goal_work self.new.tasks.items ≡ goal_work self.old.tasks.items + goals_weigh (map goal_weighs goals.now)) }
+        ensures todo { OnOk result (todos self.new.tasks.items ≡ due_goals goals.now ∷ todos self.old.tasks.items) }
         ensures steps { OnOk result (self.new.steps.items ≡ self.old.steps.items ++ on.Some of ∷ []) }
         ensures level { OnOk result (self.new.level ≡ self.old.level + 1) }
         ensures base { OnOk result (self.new.base ≡ self.old.base) }
@@ -192,7 +191,6 @@ impl<'a> Walk<'a> {
         ensures full { IfErr result (λ e. self.old.base ≤ 4294836225 → self.old.level + 1 ≤ self.old.base + 65535 → e ≡ refusal.Memory) }
     {
         self.put(Step::Some(of))?;
-        self.tasks.push(Task::Level(self.level))?;
         self.tasks.push(Task::Goals(goals))?;
         let level = with_more(self.base, self.level, 1)?;
         self.level = level;
@@ -319,10 +317,6 @@ impl<'a> Plan<'a> {
             }
             Task::End(end, level) => {
                 walk.steps.push(end)?;
-                walk.level = level;
-                Ok(())
-            }
-            Task::Level(level) => {
                 walk.level = level;
                 Ok(())
             }

@@ -1,15 +1,19 @@
 // A record.
-ghost use Rattle.std.specs.Prelude.{◌≡◌, List, Some, None, true, length, map, [], ◌+◌, ◌<◌, ◌≤◌, ◌^◌, nat_eq, min, All, sum_by, if◌then◌else◌, IfOk, OnOk};
+ghost use Rattle.std.specs.Prelude.{◌≡◌, List, Some, None, true, length, map, [], ◌+◌, ◌<◌, ◌≤◌, ◌^◌, nat_eq, min, All, sum_by, slice_get, if◌then◌else◌, IfOk, IfErr, OnOk};
 ghost use Rattle.lp_term.specs.Nodes.{Nodes};
 ghost use Rattle.lp_code.specs.Length.{Fits, length_of};
 ghost use Rattle.lp_code.specs.Denote.{from_zero};
 ghost use Rattle.lp_model.specs.declared.clause.Goal.{Goal};
 ghost use Rattle.lp_gen.specs.declared.plan.Origin.TheVariants as origin;
-ghost use Rattle.lp_gen.specs.inner.Fitting.{is_short};
-ghost use Rattle.lp_gen.specs.inner.Listing.{around_of, constant_function};
-ghost use Rattle.lp_gen.specs.inner.Recorded.{FrontWritten, TypesWritten, HasKey, RecordWritten};
+ghost use Rattle.lp_gen.specs.inner.Fitting.{is_short, IsRefused};
+ghost use Rattle.lp_gen.specs.inner.BodyUsing.{instr_takes, assumption_takes};
+ghost use Rattle.lp_gen.specs.Steps.{constant_function};
+ghost use Rattle.lp_gen.specs.inner.Listing.{around_of};
+ghost use Rattle.lp_gen.specs.Registers.{Passes};
+ghost use Rattle.lp_gen.specs.inner.Using.{Uses, Lacks};
+ghost use Rattle.lp_gen.specs.inner.Recorded.{own_count, head_in, FrontWritten, TypesWritten, HasKey, RecordWritten, types_taken, front_takes, front_around, StartsWell, start_around, RecordTakes};
 ghost use Rattle.lp_gen.specs.inner.GoalCode.{numbers, AreRegisters};
-ghost use Rattle.lp_gen.specs.inner.BodyCode.{levels_found, AreStarts, started_at, StartsGrow, AssumptionMade};
+ghost use Rattle.lp_gen.specs.inner.BodyCode.{levels_found, AreStarts, started_at, AreAllSet, StartsGrow, AssumptionMade};
 ghost use Rattle.lp_gen.specs.declared.plan.Step.TheVariants as on;
 ghost use Rattle.std.specs.List.{IsDistinct};
 ghost use Rattle.std.specs.Borrow.{Bor};
@@ -41,8 +45,10 @@ pub(crate) fn number_of(place: usize) -> u32
     place.min(u32::MAX as usize) as u32
 }
 
-fn count_of_registers(count: u64) -> Result<u16, RecordRefusal>
-    ensures { IfOk result (λ registers. registers ≡ count) }
+/// So many registers.
+pub(crate) fn count_of_registers(count: u64) -> Result<u16, RecordRefusal>
+    ensures count { IfOk result (λ registers. registers ≡ count) }
+    ensures cause { IfErr result (IsRefused (65535 < count)) }
 {
     match u16::try_from(count) {
         Ok(registers) => Ok(registers),
@@ -82,6 +88,7 @@ fn captured_by(
     starts: &mut Starts,
 ) -> Result<Vec<u16>, RecordRefusal>
     ensures registers { IfOk result (λ registers. (b : Nodes) → AreRegisters (around_of b environment.now) (levels_found (around_of b environment.now) levels.now) registers.items) }
+    ensures many { (b : Nodes) → IfErr result (IsRefused (65535 < length (levels_found (around_of b environment.now) levels.now))) }
     ensures starts { OnOk result ((b : Nodes) → starts.old.entries ≡ [] → IsDistinct nat_eq levels.now → AreStarts (around_of b environment.now) (levels_found (around_of b environment.now) levels.now) (started_at b starts.new) (index_map_len starts.new)) }
 {
     let mut registers = Vec::new(alloc);
@@ -109,6 +116,8 @@ pub(crate) fn assumption(
     number: usize,
 ) -> Result<Instr, RecordRefusal>
     ensures short { IfOk result (λ instr. is_short instr ≡ true) }
+    ensures takes { IfOk result (λ instr. instr_takes instr ≡ assumption_takes tables.entry.type_vars (around_of tables.entry.bank.now environment.now) (slice_get tables.entry.assumptions.now number)) }
+    ensures many { IfErr result (IsRefused (0 < (assumption_takes tables.entry.type_vars (around_of tables.entry.bank.now environment.now) (slice_get tables.entry.assumptions.now number)).misfits)) }
     ensures made { IfOk result (λ instr. AssumptionMade tables.entry environment.now number all_starts.old.items all_starts.new.items instr) }
     ensures grown { OnOk result (StartsGrow tables.entry all_starts.old.items all_starts.new.items (on.Assume number)) }
 {
@@ -144,7 +153,9 @@ fn write_head(
     environment: &mut Environment<'_>,
     clause: &Clause,
 ) -> Result<RecordHead, RecordRefusal>
-    ensures { IfOk result (λ head. FrontWritten tables.entry.bank.now (constant_function tables.entry.bank.now tables.entry.constants.now) emitter.old emitter.new environment.old environment.new (origin.Clause clause.entry) (Some head)) }
+    ensures written { IfOk result (λ head. FrontWritten tables.entry.bank.now (constant_function tables.entry.bank.now tables.entry.constants.now) emitter.old emitter.new environment.old environment.new (origin.Clause clause.entry) (Some head)) }
+    ensures uses { StartsWell tables.entry.bank.now environment.old (origin.Clause clause.entry) → OnOk result (Uses emitter.old emitter.new (front_takes (constant_function tables.entry.bank.now tables.entry.constants.now) (front_around tables.entry.bank.now environment.old emitter.old.registers (origin.Clause clause.entry)) (own_count (origin.Clause clause.entry)) (head_in tables.entry.bank.now (origin.Clause clause.entry)))) }
+    ensures lacks { IfErr result (Lacks emitter.old (front_takes (constant_function tables.entry.bank.now tables.entry.constants.now) (front_around tables.entry.bank.now environment.old emitter.old.registers (origin.Clause clause.entry)) (own_count (origin.Clause clause.entry)) (head_in tables.entry.bank.now (origin.Clause clause.entry)))) }
 {
     enter_clause(emitter, environment, clause.vars.as_slice())?;
     let head = get_head(alloc, tables, emitter, environment, clause.head)?;
@@ -160,7 +171,9 @@ fn write_variables(
     environment: &mut Environment<'_>,
     query: &Typed,
 ) -> Result<(), RecordRefusal>
-    ensures { OnOk result ((goals : Bor (List Goal)) → FrontWritten tables.entry.bank.now (constant_function tables.entry.bank.now tables.entry.constants.now) emitter.old emitter.new environment.old environment.new (origin.Query query.entry goals) None) }
+    ensures written { OnOk result ((goals : Bor (List Goal)) → FrontWritten tables.entry.bank.now (constant_function tables.entry.bank.now tables.entry.constants.now) emitter.old emitter.new environment.old environment.new (origin.Query query.entry goals) None) }
+    ensures uses { (goals : Bor (List Goal)) → StartsWell tables.entry.bank.now environment.old (origin.Query query.entry goals) → OnOk result (Uses emitter.old emitter.new (front_takes (constant_function tables.entry.bank.now tables.entry.constants.now) (front_around tables.entry.bank.now environment.old emitter.old.registers (origin.Query query.entry goals)) (own_count (origin.Query query.entry goals)) (head_in tables.entry.bank.now (origin.Query query.entry goals)))) }
+    ensures lacks { (goals : Bor (List Goal)) → IfErr result (Lacks emitter.old (front_takes (constant_function tables.entry.bank.now tables.entry.constants.now) (front_around tables.entry.bank.now environment.old emitter.old.registers (origin.Query query.entry goals)) (own_count (origin.Query query.entry goals)) (head_in tables.entry.bank.now (origin.Query query.entry goals)))) }
 {
     let vars = types_of_query(alloc, query)?;
     enter_query(emitter, environment, vars.as_slice())?;
@@ -176,7 +189,9 @@ fn write_front(
     environment: &mut Environment<'_>,
     origin: Origin<'_>,
 ) -> Result<Option<RecordHead>, RecordRefusal>
-    ensures { IfOk result (λ head. FrontWritten tables.entry.bank.now (constant_function tables.entry.bank.now tables.entry.constants.now) emitter.old emitter.new environment.old environment.new origin.entry head) }
+    ensures written { IfOk result (λ head. FrontWritten tables.entry.bank.now (constant_function tables.entry.bank.now tables.entry.constants.now) emitter.old emitter.new environment.old environment.new origin.entry head) }
+    ensures uses { StartsWell tables.entry.bank.now environment.old origin.entry → OnOk result (Uses emitter.old emitter.new (front_takes (constant_function tables.entry.bank.now tables.entry.constants.now) (front_around tables.entry.bank.now environment.old emitter.old.registers origin.entry) (own_count origin.entry) (head_in tables.entry.bank.now origin.entry))) }
+    ensures lacks { IfErr result (Lacks emitter.old (front_takes (constant_function tables.entry.bank.now tables.entry.constants.now) (front_around tables.entry.bank.now environment.old emitter.old.registers origin.entry) (own_count origin.entry) (head_in tables.entry.bank.now origin.entry))) }
 {
     match origin {
         Origin::Clause(clause) => {
@@ -192,7 +207,9 @@ fn write_front(
 
 // The type variables that a clause of a program makes.
 fn write_types(emitter: &mut Emitter, program: bool, count: u16) -> Result<(), RecordRefusal>
-    ensures { OnOk result (TypesWritten program emitter.old emitter.new count) }
+    ensures written { OnOk result (TypesWritten program emitter.old emitter.new count) }
+    ensures uses { OnOk result (Uses emitter.old emitter.new (types_taken program count)) }
+    ensures lacks { IfErr result (Lacks emitter.old (types_taken program count)) }
 {
     if !program {
         return Ok(());
@@ -232,6 +249,7 @@ pub(crate) fn record_of<'x>(
 ) -> Result<Record, RecordRefusal>
     ensures fit { IfOk result (λ r. All Fits r.code.items) }
     ensures few { IfOk result (λ r. sum_by length_of r.code.items ≤ 4294967295) }
+    ensures lacks { AreAllSet tables.entry.bank.now captured.now → part.now.base + own_count part.now.origin ≤ 4294967295 → IfErr result (IsRefused (RecordTakes Passes tables.entry (constant_function tables.entry.bank.now tables.entry.constants.now) part.now (start_around tables.entry.bank.now captured.now part.now.base) (index_map_len captured.now))) }
     ensures written { IfOk result (RecordWritten tables.entry (constant_function tables.entry.bank.now tables.entry.constants.now) part.now captured.now starts.old.items starts.new.items) }
 {
     let program = part.within.is_none();
@@ -244,13 +262,15 @@ pub(crate) fn record_of<'x>(
     let steps = part.steps.as_slice();
     write_body(alloc, tables, &mut emitter, &mut environment, starts, steps)?;
     let key = key_by(alloc, tables.bank, part.origin, program)?;
+    let types = emitter.count_types();
+    let terms = emitter.count_terms();
     Ok(Record {
         program,
         head,
         captured_types,
         captured: registers,
-        types: emitter.types,
-        registers: emitter.registers,
+        types,
+        registers: terms,
         key,
         code: emitter.code,
     })

@@ -2,8 +2,9 @@
 ghost use Rattle.std.specs.Prelude.{◌≡◌};
 ghost use Rattle.lp_term.specs.Nodes.{Nodes, tree, type_tree};
 ghost use Rattle.lp_standard.specs.Schemes.{part_type, shape_type};
-ghost use Rattle.lp_gen.specs.inner.Reading.{read, from_of, to_of};
-ghost use Rattle.lp_gen.specs.inner.Listing.{read_function, as_asked, standard_type, declared_at, constant_function, term_function};
+ghost use Rattle.lp_gen.specs.Steps.{from_of, to_of, as_asked, standard_type, constant_function};
+ghost use Rattle.lp_gen.specs.inner.Reading.{read};
+ghost use Rattle.lp_gen.specs.inner.Listing.{read_function, declared_at, term_function};
 
 use crate::types::TypeView;
 use lp_model::Declared;

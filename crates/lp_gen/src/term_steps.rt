@@ -3,7 +3,8 @@ ghost use Rattle.std.specs.Prelude.{◌≡◌, ℕ, suc, [], ◌∷◌, ◌++◌
 ghost use Rattle.lp_term.specs.Nodes.{type_tree};
 ghost use Rattle.lp_gen.specs.Registers.{step_takes, steps_take};
 ghost use Rattle.lp_gen.specs.inner.Reading.{read};
-ghost use Rattle.lp_gen.specs.inner.Listing.{plain_step, make_variable, apply_last, abstract_last};
+ghost use Rattle.lp_gen.specs.Steps.{make_variable, apply_last, abstract_last};
+ghost use Rattle.lp_gen.specs.inner.Listing.{plain_step};
 ghost use Rattle.lp_gen.specs.inner.Stacked.{IsStacked, stack_behind, AreStacked};
 ghost use Rattle.lp_gen.specs.inner.Using.{Uses, Lacks};
 ghost use Rattle.lp_gen.specs.inner.TermSteps.{StepsPut, TermOfSteps};

@@ -4,7 +4,8 @@ ghost use Rattle.lp_gen.specs.Registers.{term_takes, behind_term, terms_take, be
 ghost use Rattle.lp_gen.specs.inner.Using.{Uses, Lacks};
 ghost use Rattle.lp_term.specs.Nodes.{tree};
 ghost use Rattle.lp_gen.specs.inner.Reading.{read};
-ghost use Rattle.lp_gen.specs.inner.Listing.{around_of, constant_function, head_type};
+ghost use Rattle.lp_gen.specs.Steps.{constant_function, head_type};
+ghost use Rattle.lp_gen.specs.inner.Listing.{around_of};
 ghost use Rattle.lp_gen.specs.inner.Written.{TermWritten, ArgumentsWritten};
 
 use crate::emitter::Emitter;

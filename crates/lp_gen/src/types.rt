@@ -2,7 +2,8 @@
 ghost use Rattle.std.specs.Prelude.{◌≡◌, Some};
 ghost use Rattle.lp_calculus.specs.Typing.{type_at};
 ghost use Rattle.lp_term.specs.Nodes.{tree, type_tree};
-ghost use Rattle.lp_gen.specs.inner.Reading.{read, read_at, read_top, read_argument, types_of, from_of, to_of};
+ghost use Rattle.lp_gen.specs.Steps.{from_of, to_of};
+ghost use Rattle.lp_gen.specs.inner.Reading.{read, read_at, read_top, read_argument, types_of};
 
 use lp_term::{Bank, TermId, TermNode, TypeId, TypeNode};
 

@@ -2,7 +2,8 @@
 ghost use Rattle.std.specs.Prelude.{◌≡◌, OnOk, IfErr};
 ghost use Rattle.lp_gen.specs.Registers.{plain_code, made_takes, unset_take};
 ghost use Rattle.lp_gen.specs.inner.Using.{Uses, UsesUnset, Lacks};
-ghost use Rattle.lp_gen.specs.inner.Listing.{around_of, seen, set_level};
+ghost use Rattle.lp_gen.specs.Steps.{set_level};
+ghost use Rattle.lp_gen.specs.inner.Listing.{around_of, seen};
 ghost use Rattle.lp_gen.specs.inner.Bodies.{IsShort};
 ghost use Rattle.lp_gen.specs.inner.Beginning.{VariableMade, PlaceMade, OwnMade, NeckPut};
 

@@ -28,3 +28,6 @@ pub mod Costs
 pub mod FillingSteps
 pub mod FillingBytes
 pub mod TypingRows
+pub mod Parts
+pub mod Turns
+pub mod Needs

@@ -86,7 +86,7 @@ module _ (sig : Signature) (text : List ℕ) (nodes : List RawNode) (root : ℕ)
   begun l none first scope variables notes = record {
     scope = [];
     has_scope = scope;
-    are_open = tt;
+    are_open = refl;
     variables = variables;
     notes = notes;
     known = subst (All (IsStep (length l.types.types))) (sym none) (All-nil (IsStep (length l.types.types)));

@@ -38,7 +38,7 @@ mark_same sig text count b c E ρ step.Apply k = refl
 
 pub step_more : (n m : ℕ) → n ≤ m → (s : Step) → IsStep n s → IsStep m s
 step_more n m l (step.Bound i) k = tt
-step_more n m l (step.Variable d i) k = tt
+step_more n m l (step.Variable d i) k = k
 step_more n m l (step.Standard i) k = k
 step_more n m l (step.Declared i v id) k = tt
 step_more n m l (step.Integer z) k = tt

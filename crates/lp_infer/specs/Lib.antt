@@ -19,3 +19,4 @@ pub mod ReadingOff
 pub mod Filling
 pub mod Formulas
 pub mod Worked
+pub mod inner

@@ -1,5 +1,5 @@
 -- A text as a list of its parts, each behind those that it is made of.
-use Rattle.std.specs.Prelude.{ℕ, suc, ◌+◌, ◌-◌, ◌<◌, List, [], ◌∷◌, ◌++◌, Option, Some, None, ℤ}
+use Rattle.std.specs.Prelude.{ℕ, suc, ◌+◌, ◌-◌, ◌^◌, ◌<◌, List, [], ◌∷◌, ◌++◌, Option, Some, None, ℤ}
 use Rattle.lp_calculus.specs.Types.{Ty}
 use Rattle.lp_calculus.specs.Typing.{Scheme, o_type}
 use Rattle.lp_term.specs.Nodes.{Nodes, type_tree}
@@ -56,8 +56,9 @@ abbrev pub IsGivenKnown : ℕ → Option TypeId → Type 0
 IsGivenKnown n None = Unit {0}
 IsGivenKnown n (Some id) = id.0 < n
 
--- the types that a step names are there
+-- the types that a step names are there, and a variable stands below fewer abstractions than a list has elements
 abbrev pub IsStep : ℕ → Step → Type 0
 IsStep n (step.Standard c) = c < 25
+IsStep n (step.Variable depth k) = depth < 2 ^ 63
 IsStep n (step.Open given) = IsGivenKnown n given
 IsStep n _ = Unit {0}

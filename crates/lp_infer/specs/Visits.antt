@@ -41,7 +41,7 @@ Runs sig text nodes κ count scope before (task.Apply ∷ ts) code after =
 
 -- the open abstractions, the innermost first, are those whose ends are among the tasks
 abbrev pub AreOpen : List ℕ → List (List ℕ) → List Task → Type 0
-AreOpen text scope [] = Unit {0}
+AreOpen text scope [] = scope ≡ []
 AreOpen text scope (task.Visit n ∷ ts) = AreOpen text scope ts
 AreOpen text scope (task.Apply ∷ ts) = AreOpen text scope ts
 AreOpen text [] (task.Leave x outside ∷ ts) = ⊥

@@ -72,10 +72,8 @@ impl Lookup {
             return put_type_variable(&mut self.types, spot.from as u64);
         }
         let number = self.note_number(source, spot)?;
-        match (source.len() as u64).checked_add(number as u64) {
-            Some(at) => put_type_variable(&mut self.types, at),
-            None => Err(Memory),
-        }
+        let at = (source.len() as u64).saturating_add(number as u64);
+        put_type_variable(&mut self.types, at)
     }
 
     // A kind or an abbreviation on arguments, none where it takes another number of them.

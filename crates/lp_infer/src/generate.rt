@@ -1,5 +1,5 @@
 // The equations of a text.
-ghost use Rattle.std.specs.Prelude.{◌≡◌, ℕ, suc, ◌+◌, ◌-◌, ◌<◌, List, [], ◌∷◌, ◌++◌, map, reverse, length, IfOk, OnOk, IfSome, All};
+ghost use Rattle.std.specs.Prelude.{◌≡◌, ℕ, suc, ◌+◌, ◌-◌, ◌^◌, ◌<◌, ◌≤◌, List, [], ◌∷◌, ◌++◌, map, reverse, length, IfOk, OnOk, All};
 ghost use Rattle.lp_calculus.specs.Types.{Ty, con, tys, var};
 ghost use Rattle.lp_calculus.specs.Typing.{Scheme};
 ghost use Rattle.lp_term.specs.Nodes.{type_tree};
@@ -8,6 +8,7 @@ ghost use Rattle.lp_infer.specs.Postfix.{is_index, is_constant, opens, closes, a
 ghost use Rattle.lp_infer.specs.Running.{act, run, pushed};
 ghost use Rattle.lp_term.specs.Within.{AreTypesOf};
 ghost use Rattle.lp_infer.specs.Copies.{IsType};
+ghost use Rattle.lp_infer.specs.inner.Parts.{takes, ends, HaveParts, HaveOpen};
 ghost use Rattle.lp_infer.specs.Making.{IsSound, Acts, Makes, MakesFresh, IsConstant, IsEquated, HasVariables, IsEnded, IsGenerated};
 
 use crate::instance::instance;
@@ -20,10 +21,12 @@ use lp_type_unify::Pair;
 use std::alloc::Global;
 
 // The index of a variable below so many abstractions: the first of so many is the outermost.
-pub(crate) fn index_of(count: u64, depth: u64, number: u64) -> Option<u64>
-    ensures { IfSome result (λ i. i ≡ depth + (count - suc number)) }
+pub(crate) fn index_of(count: u64, depth: u64, number: u64) -> u64
+    requires count { count < 2 ^ 63 }
+    requires depth { depth < 2 ^ 63 }
+    ensures { result ≡ depth + (count - suc number) }
 {
-    depth.checked_add(count.saturating_sub(number).saturating_sub(1))
+    depth + count.saturating_sub(number).saturating_sub(1)
 }
 
 // The types of a text: those of its indices, the newest last; those of the parts so far; those that are to be read off, the
@@ -93,11 +96,11 @@ impl Typing {
 
     // The type of a variable, of which there are so many, below so many abstractions.
     fn variable(&mut self, count: u64, depth: u64, number: u64) -> Result<(), Memory>
+        requires count { count < 2 ^ 63 }
+        requires depth { depth < 2 ^ 63 }
         ensures { OnOk result (Acts self.old self.new (act (is_index (depth + (count - suc number))))) }
     {
-        let Some(index) = index_of(count, depth, number) else {
-            return Err(Memory);
-        };
+        let index = index_of(count, depth, number);
         self.index(index)
     }
 
@@ -155,13 +158,15 @@ impl Typing {
 
     // The end of an abstraction.
     fn close(&mut self) -> Result<(), Memory>
+        requires parts { 0 < length self.old.stack.items }
+        requires opened { 0 < length self.old.context.items }
         ensures { OnOk result (Acts self.old self.new (act closes)) }
     {
         let Some(to) = self.stack.pop() else {
-            return Err(Memory);
+            unreachable!()
         };
         let Some(from) = self.context.pop() else {
-            return Err(Memory);
+            unreachable!()
         };
         let id = put_arrow(&mut self.types, from, to)?;
         self.stack.push(id)?;
@@ -169,13 +174,14 @@ impl Typing {
     }
 
     fn apply(&mut self) -> Result<(), Memory>
+        requires { 1 < length self.old.stack.items }
         ensures { OnOk result (Acts self.old self.new (act applies)) }
     {
         let Some(argument) = self.stack.pop() else {
-            return Err(Memory);
+            unreachable!()
         };
         let Some(head) = self.stack.pop() else {
-            return Err(Memory);
+            unreachable!()
         };
         let id = self.new_variable()?;
         let arrow = put_arrow(&mut self.types, argument, id)?;
@@ -186,6 +192,10 @@ impl Typing {
 
     // The next part of a text with so many variables.
     fn step(&mut self, signature: &Signature, count: u64, step: Step) -> Result<(), Memory>
+        requires count { count < 2 ^ 63 }
+        requires known { IsStep (length self.old.types.types) step }
+        requires parts { takes step ≤ length self.old.stack.items }
+        requires opened { ends step ≤ length self.old.context.items }
         ensures { IsStep (length self.old.types.types) step → OnOk result ((text : List ℕ) → Acts self.old self.new (act (mark text signature.now.bank count (type_tree self.old.types) step))) }
     {
         match step {
@@ -214,7 +224,13 @@ impl Typing {
 
     // The parts of a text.
     fn steps(&mut self, signature: &Signature, steps: &[Step], count: u64) -> Result<(), Memory>
-        ensures { All (IsStep (length self.old.types.types)) steps.now → OnOk result ((text : List ℕ) → Acts self.old self.new (run (map (mark text signature.now.bank count (type_tree self.old.types)) steps.now))) }
+        requires count { count < 2 ^ 63 }
+        requires known { All (IsStep (length self.old.types.types)) steps.now }
+        requires sound { IsSound self.old }
+        requires parts { HaveParts steps.now (length self.old.stack.items) }
+        requires opened { HaveOpen steps.now (length self.old.context.items) }
+        ensures parts { OnOk result (length self.new.stack.items ≡ 1) }
+        ensures acts { All (IsStep (length self.old.types.types)) steps.now → OnOk result ((text : List ℕ) → Acts self.old self.new (run (map (mark text signature.now.bank count (type_tree self.old.types)) steps.now))) }
     {
         for step in steps {
             self.step(signature, count, *step)?;
@@ -224,10 +240,11 @@ impl Typing {
 
     // The text is to have the type of goals.
     fn end(&mut self) -> Result<(), Memory>
+        requires { 0 < length self.old.stack.items }
         ensures { OnOk result (IsEnded self.old self.new) }
     {
         let Some(has) = self.stack.pop() else {
-            return Err(Memory);
+            unreachable!()
         };
         let goal = put_constructor(&mut self.types, 0, &[])?;
         self.equate(has, goal)
@@ -243,6 +260,10 @@ pub(crate) fn equations_of(
     types: Bank,
     next: u64,
 ) -> Result<Typing, Memory>
+    requires count { count < 2 ^ 63 }
+    requires known { All (IsStep (length types.types)) steps.now }
+    requires parts { HaveParts steps.now 0 }
+    requires opened { HaveOpen steps.now count }
     ensures { All (IsStep (length types.types)) steps.now → IfOk result (λ t. (text : List ℕ) → IsGenerated signature.now text steps.now count types next t) }
 {
     let mut typing = Typing {

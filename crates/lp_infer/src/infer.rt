@@ -1,11 +1,11 @@
 // The typing of a text.
-ghost use Rattle.std.specs.Prelude.{◌≡◌, ◌<◌, length, map, take, All, IfOk, IfErr, IfSome, MatchOption};
+ghost use Rattle.std.specs.Prelude.{◌≡◌, ◌+◌, ◌<◌, ◌≤◌, length, map, take, All, IfOk, IfErr, IfSome, MatchOption};
 ghost use Rattle.lp_syntax.specs.declared.text.RawTerm.{RawTerm};
 ghost use Rattle.lp_infer.specs.Refusals.{IsDeclared, IsRefusal, Stands};
 ghost use Rattle.lp_infer.specs.Texts.{HasNoTextTyping};
 ghost use Rattle.lp_infer.specs.Numbering.{IsTyped};
 ghost use Rattle.lp_infer.specs.Visits.{IsLookedUp};
-ghost use Rattle.lp_infer.specs.Postfix.{IsStep};
+ghost use Rattle.lp_infer.specs.inner.Parts.{all_arguments, HaveParts, IsShallow};
 ghost use Rattle.lp_infer.specs.Formulas.{HasTypes, wanted_types};
 ghost use Rattle.lp_term.specs.Nodes.{Extends};
 ghost use Rattle.lp_term.specs.Within.{AreTypesOf};
@@ -32,14 +32,15 @@ fn variables(
     places: &[Spot],
     types: &[TypeId],
 ) -> Result<Vec<(Spot, TypeId)>, Memory>
-    requires { AreTypesOf bank.now types.now }
+    requires known { AreTypesOf bank.now types.now }
+    requires enough { length places.now ≤ length types.now }
     ensures known { IfOk result (λ variables. All (λ v. v.1.0 < length bank.now.types) variables.items) }
     ensures are { IfOk result (λ variables. (map (λ v. v.0) variables.items ≡ places.now) × (map (λ v. v.1) variables.items ≡ take (length places.now) types.now)) }
 {
     let mut variables = Vec::new(alloc);
     for (at, place) in places.iter().enumerate() {
         let Some(id) = types.get(at).copied() else {
-            return Err(Memory);
+            unreachable!()
         };
         variables.push((*place, id))?;
     }
@@ -56,7 +57,10 @@ fn read_off(
     bindings: &Bindings,
     bank: &mut Bank,
 ) -> Result<Typed, Memory>
-    requires { AreKept typing.now.types bindings.now.made }
+    requires bound { AreKept typing.now.types bindings.now.made }
+    requires shallow { All IsShallow steps.now }
+    requires parts { HaveParts steps.now 0 }
+    requires wanted { length typing.now.wanted.items ≡ length places.now + all_arguments steps.now }
     ensures kept { Extends bank.old bank.new }
     ensures stands { IfOk result (Stands bank.new) }
     ensures types { IfOk result (HasTypes source.now steps.now places.now (wanted_types typing.now bindings.now.made) bank.new) }
@@ -83,14 +87,12 @@ fn typed(
     text: Lookup,
     bank: &mut Bank,
 ) -> Result<Option<Typed>, Memory>
-    requires { All (IsStep (length text.types.types)) text.steps.items }
+    requires { (raw : RawTerm) × IsLookedUp signature.now source.now raw.nodes.items raw.root text }
     ensures kept { Extends bank.old bank.new }
     ensures stands { IfOk result (λ found. IfSome found (Stands bank.new)) }
     ensures typed { IfOk result (λ found. (raw : RawTerm) → IsLookedUp signature.now source.now raw.nodes.items raw.root text → MatchOption found (HasNoTextTyping signature.now source.now raw) (IsTyped signature.now source.now raw bank.new)) }
 {
-    let Some(next) = (source.len() as u64).checked_add(text.notes.places.len() as u64) else {
-        return Err(Memory);
-    };
+    let next = source.len() as u64 + text.notes.places.len() as u64;
     let Lookup {
         steps,
         variables,

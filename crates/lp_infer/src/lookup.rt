@@ -1,5 +1,5 @@
 // A text with its names looked up.
-ghost use Rattle.std.specs.Prelude.{◌≡◌, ℕ, List, [], ◌∷◌, ◌++◌, map, reverse, IfOk, OnOk, Option, Some, length};
+ghost use Rattle.std.specs.Prelude.{◌≡◌, ◌^◌, ◌<◌, ℕ, List, [], ◌∷◌, ◌++◌, map, reverse, IfOk, OnOk, Option, Some, length, true};
 ghost use Rattle.lp_calculus.specs.Typing.{Scheme};
 ghost use Rattle.lp_standard.specs.Schemes.{standard_schemes, entry};
 ghost use Rattle.lp_sig.specs.Pieces.{spelled, begins_variable};
@@ -9,6 +9,7 @@ ghost use Rattle.lp_infer.specs.Texts.{variable_index, read_constant, read_numbe
 ghost use Rattle.lp_infer.specs.Levels.{HasScope};
 ghost use Rattle.lp_infer.specs.Firsts.{AreFirsts};
 ghost use Rattle.lp_infer.specs.Visits.{IsBegun, IsLeafRead, LeafRead, Opened, Looked, TaskDone, LookedUp};
+ghost use Rattle.lp_infer.specs.inner.Turns.{turns};
 ghost use Rattle.lp_infer.specs.declared.lookup.Task.TheVariants.{Visit};
 
 use crate::firsts::Firsts;
@@ -76,6 +77,7 @@ impl Lookup {
     }
 
     fn push_variable(&mut self, number: usize) -> Result<(), Memory>
+        requires { self.old.scope.depth < 2 ^ 63 }
         ensures { OnOk result ((names : List (List ℕ)) → HasScope names self.old.scope → (sig : Signature) → (text : List ℕ) → IsLeafRead sig text (λ count. Some (variable_index count names number, self.old.variables.places.items)) self.old self.new) }
     {
         self.steps
@@ -85,6 +87,7 @@ impl Lookup {
 
     // A variable, a new one where it has no number.
     fn variable(&mut self, source: &[u8], spot: Spot, number: Option<usize>) -> Result<(), Memory>
+        requires { self.old.scope.depth < 2 ^ 63 }
         ensures { OnOk result ((names : List (List ℕ)) → HasScope names self.old.scope → (sig : Signature) → IsLeafRead sig source.now (λ count. read_variable count names spot number self.old.variables.places.items) self.old self.new) }
     {
         match number {
@@ -131,6 +134,7 @@ impl Lookup {
 
     // A name that no abstraction binds. False where it is not declared.
     fn free(&mut self, signature: &Signature, source: &[u8], spot: Spot) -> Result<bool, Memory>
+        requires { self.old.scope.depth < 2 ^ 63 }
         ensures { IfOk result (λ ok. (names : List (List ℕ)) → HasScope names self.old.scope → AreFirsts source.now self.old.variables → LeafRead ok signature.now source.now (λ count. read_free signature.now source.now count names spot self.old.variables.places.items) self.old self.new) }
     {
         let name = spelled_at(source, spot);
@@ -146,6 +150,7 @@ impl Lookup {
     }
 
     fn name(&mut self, signature: &Signature, source: &[u8], spot: Spot) -> Result<bool, Memory>
+        requires { self.old.scope.depth < 2 ^ 63 }
         ensures { IfOk result (λ ok. (names : List (List ℕ)) → HasScope names self.old.scope → AreFirsts source.now self.old.variables → LeafRead ok signature.now source.now (λ count. read_name signature.now source.now count names spot self.old.variables.places.items) self.old self.new) }
     {
         let name = spelled_at(source, spot);
@@ -162,6 +167,7 @@ impl Lookup {
 
     // Opens an abstraction of a name, which may have a type. Gives the level that the name had outside.
     fn begin(&mut self, name: &[u8], given: Option<TypeId>) -> Result<Option<u64>, Memory>
+        requires { self.old.scope.depth < 2 ^ 63 }
         ensures { IfOk result (IsBegun name.now given self.old self.new) }
     {
         self.steps.push(Step::Open(given))?;
@@ -176,6 +182,8 @@ impl Lookup {
         spot: Spot,
         note: &Option<RawType>,
     ) -> Result<Option<Option<u64>>, Memory>
+        requires depth { self.old.scope.depth < 2 ^ 63 }
+        requires notes { AreFirsts source.now self.old.notes }
         ensures { IfOk result (λ o. AreFirsts source.now self.old.notes → Opened signature.now source.now (spelled source.now spot) note.now self.old self.new o) }
     {
         match note {
@@ -202,7 +210,10 @@ impl Lookup {
         node: usize,
         work: &mut Vec<Task>,
     ) -> Result<bool, Memory>
-        ensures { IfOk result (λ ok. (root : ℕ) → Looked signature.now source.now raw.now.nodes.items root self.old (Visit node ∷ reverse work.old.items) → TaskDone ok signature.now source.now raw.now.nodes.items root self.new (reverse work.new.items)) }
+        requires depth { self.old.scope.depth < 2 ^ 63 }
+        requires notes { AreFirsts source.now self.old.notes }
+        ensures fewer { IfOk result (λ ok. ok ≡ true → turns (reverse work.new.items) < turns (Visit node ∷ reverse work.old.items)) }
+        ensures looked { IfOk result (λ ok. (root : ℕ) → Looked signature.now source.now raw.now.nodes.items root self.old (Visit node ∷ reverse work.old.items) → TaskDone ok signature.now source.now raw.now.nodes.items root self.new (reverse work.new.items)) }
     {
         let Some(found) = raw.nodes.get(node) else {
             return Ok(false);
@@ -252,7 +263,10 @@ impl Lookup {
         task: Task,
         work: &mut Vec<Task>,
     ) -> Result<bool, Memory>
-        ensures { IfOk result (λ ok. (root : ℕ) → Looked signature.now source.now raw.now.nodes.items root self.old (task ∷ reverse work.old.items) → TaskDone ok signature.now source.now raw.now.nodes.items root self.new (reverse work.new.items)) }
+        requires depth { self.old.scope.depth < 2 ^ 63 }
+        requires notes { AreFirsts source.now self.old.notes }
+        ensures fewer { IfOk result (λ ok. ok ≡ true → turns (reverse work.new.items) < turns (task ∷ reverse work.old.items)) }
+        ensures looked { IfOk result (λ ok. (root : ℕ) → Looked signature.now source.now raw.now.nodes.items root self.old (task ∷ reverse work.old.items) → TaskDone ok signature.now source.now raw.now.nodes.items root self.new (reverse work.new.items)) }
     {
         match task {
             Task::Visit(node) => self.visit(signature, source, raw, node, work),
@@ -281,13 +295,10 @@ pub(crate) fn looked_up(
     let mut lookup = Lookup::new(alloc);
     let mut work = Vec::new(alloc);
     work.push(Task::Visit(raw.root))?;
-    for _ in 0..u64::MAX {
-        let Some(task) = work.pop() else {
-            return Ok(Some(lookup));
-        };
+    while let Some(task) = work.pop() {
         if !lookup.take(signature, source, raw, task, &mut work)? {
             return Ok(None);
         }
     }
-    Err(Memory)
+    Ok(Some(lookup))
 }

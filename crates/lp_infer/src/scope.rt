@@ -1,5 +1,5 @@
 // The names that abstractions bind.
-ghost use Rattle.std.specs.Prelude.{◌≡◌, ℕ, List, [], ◌∷◌, OnOk, IfOk, Option};
+ghost use Rattle.std.specs.Prelude.{◌≡◌, ◌^◌, ◌<◌, ℕ, List, [], ◌∷◌, OnOk, IfOk, Option};
 ghost use Rattle.std.specs.Prelude.{if◌then◌else◌};
 ghost use Rattle.std.specs.Str.{bytes_eq};
 ghost use Rattle.lp_infer.specs.Levels.{HasScope, level_in, level_of};
@@ -65,11 +65,9 @@ impl Scope {
 
     // Opens an abstraction that binds a name. Gives the level that the name had outside.
     pub(crate) fn enter(&mut self, name: &[u8]) -> Result<Option<u64>, Memory>
+        requires { self.old.depth < 2 ^ 63 }
         ensures { IfOk result (λ outside. (scope : List (List ℕ)) → HasScope scope self.old → HasScope (name.now ∷ scope) self.new × (outside ≡ level_of name.now scope)) }
     {
-        if self.depth == u64::MAX {
-            return Err(Memory);
-        }
         let outside = self.level(name);
         let level = self.depth;
         self.depth += 1;

@@ -1,5 +1,5 @@
 // The formula of a text, from its parts and the type arguments of its constants.
-ghost use Rattle.std.specs.Prelude.{◌≡◌, ◌<◌, ℕ, List, [], length, map, drop, true, All, IfOk, OnOk};
+ghost use Rattle.std.specs.Prelude.{◌≡◌, ◌+◌, ◌^◌, ◌<◌, ◌≤◌, ℕ, List, [], length, map, drop, All, IfOk, OnOk};
 ghost use Rattle.lp_calculus.specs.Types.{Ty};
 ghost use Rattle.lp_calculus.specs.Typing.{Scheme};
 ghost use Rattle.lp_term.specs.Nodes.{Nodes, Extends};
@@ -8,6 +8,7 @@ ghost use Rattle.lp_infer.specs.Texts.{escaped as escaped_byte, string_bytes};
 ghost use Rattle.lp_infer.specs.Postfix.{is_index, is_constant, is_integer, is_text, closes, applies, mark, postfix};
 ghost use Rattle.lp_term.specs.Within.{AreTypesOf};
 ghost use Rattle.lp_infer.specs.Copies.{trees_of};
+ghost use Rattle.lp_infer.specs.inner.Parts.{takes, arguments_of, all_arguments, HaveParts, IsShallow};
 ghost use Rattle.lp_infer.specs.Filling.{fills, IsTerm, form, IsPushed, IsPopped, IsTaken, Forms};
 
 use crate::generate::index_of;
@@ -90,22 +91,24 @@ impl Terms {
         Ok(())
     }
 
-    fn pop(&mut self) -> Result<Spine, Memory>
-        ensures { IfOk result (IsPopped self.old self.new) }
+    fn pop(&mut self) -> Spine
+        requires { 0 < length self.old.stack.items }
+        ensures { IsPopped self.old self.new result }
     {
-        match self.stack.pop() {
-            Some(spine) => Ok(spine),
-            None => Err(Memory),
-        }
+        let Some(spine) = self.stack.pop() else {
+            unreachable!()
+        };
+        spine
     }
 
     // The term of the part before.
     fn term(&mut self, bank: &mut Bank) -> Result<TermId, Memory>
+        requires { 0 < length self.old.stack.items }
         ensures kept { Extends bank.old bank.new }
         ensures within { IfOk result (λ id. id.0 < length bank.new.terms) }
         ensures term { IfOk result (IsTaken bank.old bank.new self.old self.new) }
     {
-        let spine = self.pop()?;
+        let spine = self.pop();
         put_application(bank, spine.head, spine.arguments.as_slice())
     }
 
@@ -117,15 +120,13 @@ impl Terms {
         types: &[TypeId],
         bank: &mut Bank,
     ) -> Result<(), Memory>
+        requires { self.old.used + count ≤ length types.now }
         ensures kept { Extends bank.old bank.new }
+        ensures used { OnOk result (self.new.used ≡ self.old.used + count) }
         ensures formed { OnOk result ((scheme : Scheme) → scheme.count ≡ count → Forms bank.old bank.new types.now self.old self.new (form (is_constant number scheme))) }
     {
-        let Some(end) = self.used.checked_add(count as usize) else {
-            return Err(Memory);
-        };
-        let Some(arguments) = types.get(self.used..end) else {
-            return Err(Memory);
-        };
+        let end = self.used + count as usize;
+        let arguments = &types[self.used..end];
         let head = put_constant(bank, number, arguments)?;
         self.used = end;
         self.push(head)
@@ -133,6 +134,7 @@ impl Terms {
 
     fn text(&mut self, token: &[u8], bank: &mut Bank) -> Result<(), Memory>
         ensures kept { Extends bank.old bank.new }
+        ensures used { OnOk result (self.new.used ≡ self.old.used) }
         ensures formed { OnOk result ((types : List TypeId) → Forms bank.old bank.new types self.old self.new (form (is_text (string_bytes token.now)))) }
     {
         let bytes = bytes_of(self.alloc, token)?;
@@ -142,6 +144,7 @@ impl Terms {
 
     fn index(&mut self, index: u64, bank: &mut Bank) -> Result<(), Memory>
         ensures kept { Extends bank.old bank.new }
+        ensures used { OnOk result (self.new.used ≡ self.old.used) }
         ensures formed { OnOk result ((types : List TypeId) → Forms bank.old bank.new types self.old self.new (form (is_index index))) }
     {
         let head = put_index(bank, index)?;
@@ -150,6 +153,7 @@ impl Terms {
 
     fn integer(&mut self, value: i64, bank: &mut Bank) -> Result<(), Memory>
         ensures kept { Extends bank.old bank.new }
+        ensures used { OnOk result (self.new.used ≡ self.old.used) }
         ensures formed { OnOk result ((types : List TypeId) → Forms bank.old bank.new types self.old self.new (form (is_integer value))) }
     {
         let head = put_integer(bank, value)?;
@@ -157,7 +161,9 @@ impl Terms {
     }
 
     fn close(&mut self, bank: &mut Bank) -> Result<(), Memory>
+        requires { 0 < length self.old.stack.items }
         ensures kept { Extends bank.old bank.new }
+        ensures used { OnOk result (self.new.used ≡ self.old.used) }
         ensures formed { OnOk result ((types : List TypeId) → Forms bank.old bank.new types self.old self.new (form closes)) }
     {
         let body = self.term(bank)?;
@@ -167,11 +173,13 @@ impl Terms {
 
     #[tactic(auto, using(lp_term::proofs::Within::kept_then))]
     fn apply(&mut self, bank: &mut Bank) -> Result<(), Memory>
+        requires { 1 < length self.old.stack.items }
         ensures kept { Extends bank.old bank.new }
+        ensures used { OnOk result (self.new.used ≡ self.old.used) }
         ensures formed { OnOk result ((types : List TypeId) → Forms bank.old bank.new types self.old self.new (form applies)) }
     {
         let argument = self.term(bank)?;
-        let mut spine = self.pop()?;
+        let mut spine = self.pop();
         spine.arguments.push(argument)?;
         self.stack.push(spine)?;
         Ok(())
@@ -186,15 +194,17 @@ impl Terms {
         step: Step,
         bank: &mut Bank,
     ) -> Result<(), Memory>
+        requires count { count < 2 ^ 63 }
+        requires shallow { IsShallow step }
+        requires parts { takes step ≤ length self.old.stack.items }
+        requires arguments { self.old.used + arguments_of step ≤ length types.now }
         ensures kept { Extends bank.old bank.new }
+        ensures used { OnOk result (self.new.used ≡ self.old.used + arguments_of step) }
         ensures formed { OnOk result ((b : Nodes) → (τ : ℕ → Ty) → Forms bank.old bank.new types.now self.old self.new (form (mark source.now b count τ step))) }
     {
         match step {
             Step::Bound(out) => self.index(out, bank),
-            Step::Variable(depth, number) => match index_of(count, depth, number) {
-                Some(index) => self.index(index, bank),
-                None => Err(Memory),
-            },
+            Step::Variable(depth, number) => self.index(index_of(count, depth, number), bank),
             Step::Standard(number) => {
                 self.constant(number, standard_variables(number), types, bank)
             }
@@ -217,12 +227,18 @@ impl Terms {
         steps: &[Step],
         bank: &mut Bank,
     ) -> Result<TermId, Memory>
+        requires count { count < 2 ^ 63 }
+        requires shallow { All IsShallow steps.now }
+        requires empty { self.old.stack.items ≡ [] }
+        requires known { AreTypesOf bank.old types.now }
+        requires parts { HaveParts steps.now 0 }
+        requires arguments { self.old.used + all_arguments steps.now ≤ length types.now }
         ensures kept { Extends bank.old bank.new }
         ensures within { IfOk result (λ id. id.0 < length bank.new.terms) }
         ensures term { self.old.stack.items ≡ [] → AreTypesOf bank.old types.now → IfOk result (λ id. (R : Raw) → (b : Nodes) → (τ : ℕ → Ty) → postfix R ≡ map (mark source.now b count τ) steps.now → IsTerm bank.new id (fills R (drop self.old.used (trees_of bank.old types.now))).0) }
     {
-        for step in steps.iter().copied() {
-            self.step(source, count, types, step, bank)?;
+        for step in steps {
+            self.step(source, count, types, *step, bank)?;
         }
         self.term(bank)
     }

@@ -31,3 +31,4 @@ pub mod Joining
 pub mod HighNumbers
 pub mod NumberedSignatures
 pub mod Joins
+pub mod Ending

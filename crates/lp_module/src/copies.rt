@@ -1,5 +1,5 @@
 // The program of a set of modules.
-ghost use Rattle.std.specs.Prelude.{◌≡◌, ℕ, ◌+◌, ◌<◌, ◌≤◌, ◌++◌, List, [], ◌∷◌, length, map, All, IfErr, IfOk, OnOk, if◌then◌else◌};
+ghost use Rattle.std.specs.Prelude.{◌≡◌, ◌≢◌, ℕ, ◌+◌, ◌<◌, ◌≤◌, ◌++◌, List, [], ◌∷◌, length, map, All, IfErr, IfOk, OnOk, if◌then◌else◌};
 ghost use Rattle.std.specs.Str.{bytes_eq};
 ghost use Rattle.lp_base.specs.declared.limits.TheConstants.{MAX_COPIES};
 ghost use Rattle.lp_copies.specs.declared.names.TheConstants.{END_OF_IMAGE_NUMBERS};
@@ -222,7 +222,7 @@ impl Making {
                 continue;
             }
             let Some(entry) = kinds.get(at) else {
-                return Err(Memory);
+                unreachable!()
             };
             self.add_global_kind(entry.name.as_slice(), entry.arity)?;
         }
@@ -248,7 +248,7 @@ impl Making {
                 continue;
             }
             let Some(entry) = signature.constants().get(at) else {
-                return Err(Memory);
+                unreachable!()
             };
             let scheme = types.copy_type(
                 self.alloc,
@@ -402,12 +402,13 @@ impl Making {
 
     // Leaves the last open copy.
     fn leave(&mut self, around: &mut Vec<Open<'_>>) -> Result<(), Memory>
+        requires some { around.old.items ≢ [] }
         requires kinds { (o : Open) → (rest : List Open) → around.old.items ≡ rest ++ o ∷ [] → self.old.next.kinds + length o.module.now.hidden_kinds.items ≤ 1048576 }
         requires constants { (o : Open) → (rest : List Open) → around.old.items ≡ rest ++ o ∷ [] → self.old.next.constants + length o.module.now.hidden_constants.items ≤ 1048576 }
         ensures { OnOk result (Leaves self.old self.new around.old.items around.new.items) }
     {
         match around.pop() {
-            None => Err(Memory),
+            None => unreachable!(),
             Some(copy) => {
                 self.add_copy(&copy)?;
                 self.next = self.next.behind(copy.module);

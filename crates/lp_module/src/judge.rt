@@ -353,7 +353,7 @@ pub(crate) fn judge(
         in_term: false,
         other: false,
     };
-    for _ in 0..u64::MAX {
+    'judging: loop {
         if verdict.deep {
             return Ok(verdict);
         }
@@ -367,5 +367,4 @@ pub(crate) fn judge(
             }
         }
     }
-    Err(Memory)
 }

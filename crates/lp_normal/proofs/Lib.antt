@@ -12,3 +12,4 @@ mod Counts
 mod Works
 mod ClauseSteps
 mod Turnings
+mod Nested

@@ -1,3 +1,4 @@
 -- What only the making of lists keeps.
 pub mod Met
 pub mod Work
+pub mod Kinds

@@ -1,5 +1,5 @@
 // The flattening of sentences and queries.
-ghost use Rattle.std.specs.Prelude.{◌≡◌, ◌+◌, ◌<◌, ◌≤◌, ◌⊎◌, ℕ, ◌^◌, length, [], All, IfErr, IfOk, OnOk, Option, Some, true};
+ghost use Rattle.std.specs.Prelude.{◌≡◌, ◌+◌, ◌<◌, ◌≤◌, ◌⊎◌, ℕ, ◌^◌, length, [], All, IfErr, IfOk, OnOk, Option, Some, Bool, true, reverse};
 ghost use Rattle.lp_base.specs.declared.limits.TheConstants.{MAX_CLAUSES};
 ghost use Rattle.lp_calculus.specs.Typing.{Scheme};
 ghost use Rattle.lp_term.specs.Nodes.{Nodes, Extends, tree};
@@ -10,6 +10,7 @@ ghost use Rattle.lp_model.specs.Flatten.{flatten, flatten_query};
 ghost use Rattle.lp_model.specs.Flattened.{clauses_of, goals_of};
 ghost use Rattle.lp_model.specs.Readings.{formula_of};
 ghost use Rattle.lp_normal.specs.Counted.{HasManyClauses, HasFewClauses, AssumesManyClauses, AssumesFewClauses, IsOver};
+ghost use Rattle.lp_normal.specs.inner.Kinds.{are_goals, is_in_goals, IsNested, IsMoveNested};
 ghost use Rattle.lp_normal.specs.inner.Met.{inner_met, frames_met, made_met, move_met, Passes, IsMade};
 ghost use Rattle.lp_normal.specs.Within.{AreGoalsIn, AreClausesIn, IsFrameIn, IsInnerIn, IsMadeIn, IsMoveIn};
 ghost use Rattle.lp_normal.specs.Making.{Flat, InnerComesTo, IsMadeOf, MoveComesTo};
@@ -69,6 +70,7 @@ fn until_clause(
     ensures frames { OnOk result (All (IsFrameIn bank.new) frames.new.items) }
     ensures within { IfOk result (IsMoveIn bank.new) }
     ensures comes { IfOk result (λ m. (whole : Flat) → InnerComesTo bank.old first frames.old.items whole → MoveComesTo bank.new m frames.new.items whole) }
+    ensures kind { IfOk result (λ m. (k : Bool) → IsNested k (is_in_goals first) (reverse frames.old.items) → IsMoveNested k m (reverse frames.new.items)) }
     ensures met { IfOk result (λ m. ((b : Nodes) → inner_met b first + frames_met b frames.old.items ≡ count.old) → (b : Nodes) → move_met b m + frames_met b frames.new.items ≡ count.new) }
     ensures few { OnOk result (count.old ≤ MAX_CLAUSES → count.new ≤ MAX_CLAUSES) }
     ensures over { IfErr result (IsOver (((b : Nodes) → inner_met b first + frames_met b frames.old.items ≡ count.old) → Passes bank.old first frames.old.items count.old)) }
@@ -96,6 +98,7 @@ fn run(alloc: Global, bank: &mut Bank, first: Inner) -> Result<Made, NormalRefus
     ensures kept { Extends bank.old bank.new }
     ensures within { IfOk result (IsMadeIn bank.new) }
     ensures made { IfOk result (λ made. (whole : Flat) → InnerComesTo bank.old first [] whole → IsMadeOf bank.new made whole) }
+    ensures kind { IfOk result (λ made. are_goals made ≡ is_in_goals first) }
     ensures few { IfOk result (λ made. (b : Nodes) → made_met b made ≤ MAX_CLAUSES) }
     ensures over { IfErr result (IsOver (Passes bank.old first [] 0)) }
 {
@@ -126,7 +129,7 @@ pub fn normalise(
     let list = ClauseList::of(alloc, id, formula.type_vars, None)?;
     match run(alloc, bank, Inner::Clauses(list))? {
         Made::Clauses(clauses) => Ok(clauses),
-        Made::Goals(_) => Err(NormalRefusal::Memory),
+        Made::Goals(_) => unreachable!(),
     }
 }
 
@@ -142,6 +145,6 @@ pub fn query_body(alloc: Global, bank: &mut Bank, query: &Typed) -> Result<Vec<G
     let list = GoalList::of(alloc, Waiting { formula, level: 0 }, 0)?;
     match run(alloc, bank, Inner::Goals(list))? {
         Made::Goals(goals) => Ok(goals),
-        Made::Clauses(_) => Err(NormalRefusal::Memory),
+        Made::Clauses(_) => unreachable!(),
     }
 }

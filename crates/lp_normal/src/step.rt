@@ -1,5 +1,5 @@
 // The moves of the flattening.
-ghost use Rattle.std.specs.Prelude.{◌≡◌, ◌+◌, ◌<◌, ◌≤◌, ◌⊎◌, suc, length, [], All, IfErr, IfOk, OnOk, reverse};
+ghost use Rattle.std.specs.Prelude.{◌≡◌, ◌+◌, ◌<◌, ◌≤◌, ◌⊎◌, suc, length, [], Bool, true, All, IfErr, IfOk, OnOk, reverse};
 ghost use Rattle.lp_base.specs.declared.limits.TheConstants.{MAX_CLAUSES};
 ghost use Rattle.lp_calculus.specs.Term.{shift};
 ghost use Rattle.lp_term.specs.Nodes.{Nodes, Extends, tree, type_tree};
@@ -9,6 +9,7 @@ ghost use Rattle.lp_model.specs.Flat.{Goals, no_goals, no_clauses};
 ghost use Rattle.lp_model.specs.Flattened.{goals_of};
 ghost use Rattle.lp_normal.specs.Counted.{count_in_goals, PassesLimit, IsOver};
 ghost use Rattle.lp_normal.specs.declared.fault.NormalRefusal.TheVariants as refusal;
+ghost use Rattle.lp_normal.specs.inner.Kinds.{is_assumed, is_in_goals, waits_in_goals, IsNested, IsMoveNested};
 ghost use Rattle.lp_normal.specs.inner.Met.{list_met, clause_list_met, frame_met, frames_met, inner_met, move_met, flat_count, Passes};
 ghost use Rattle.lp_normal.specs.inner.Work.{formula_work, list_work, part_work, clause_list_work, frame_work, frames_work, inner_work, move_work};
 ghost use Rattle.lp_normal.specs.Within.{AreGoalsIn, IsWaitingIn, IsGoalListIn, IsClauseListIn, IsFrameIn, IsInnerIn, IsMoveIn};
@@ -99,6 +100,7 @@ fn for_all(
     ensures frames { OnOk result (All (IsFrameIn bank.new) frames.new.items) }
     ensures within { IfOk result (IsGoalListIn bank.new) }
     ensures comes { IfOk result (λ l. (out : Goals) (whole : Flat) → NextComesTo bank.old list next out → AllTurn bank.old (reverse frames.old.items) (these_goals out) whole → InnerComesTo bank.new (Inner.Goals l) frames.new.items whole) }
+    ensures kind { OnOk result ((k : Bool) → IsNested k true (reverse frames.old.items) → IsNested k true (reverse frames.new.items)) }
     ensures met { IfOk result (λ l. (b : Nodes) → list_met b l + frames_met b frames.new.items ≡ list_met b list + frames_met b frames.old.items) }
     ensures less { IfOk result (λ l. (c : Nodes) → Extends bank.new c → list_work c l + frames_work c frames.new.items < list_work c list + formula_work c next + frames_work c frames.old.items) }
 {
@@ -128,6 +130,7 @@ fn either(
     ensures frames { OnOk result (All (IsFrameIn bank.now) frames.new.items) }
     ensures within { IfOk result (IsGoalListIn bank.now) }
     ensures comes { IfOk result (λ l. (out : Goals) (whole : Flat) → NextComesTo bank.now list next out → AllTurn bank.now (reverse frames.old.items) (these_goals out) whole → InnerComesTo bank.now (Inner.Goals l) frames.new.items whole) }
+    ensures kind { OnOk result ((k : Bool) → IsNested k true (reverse frames.old.items) → IsNested k true (reverse frames.new.items)) }
     ensures met { IfOk result (λ l. (b : Nodes) → list_met b l + frames_met b frames.new.items ≡ list_met b list + frames_met b frames.old.items) }
     ensures less { IfOk result (λ l. (c : Nodes) → Extends bank.now c → list_work c l + frames_work c frames.new.items < list_work c list + formula_work c next + frames_work c frames.old.items) }
 {
@@ -161,6 +164,7 @@ fn assume(
     ensures kept { Extends bank.old bank.new }
     ensures within { IfOk result (IsClauseListIn bank.new) }
     ensures comes { IfOk result (λ l. (out : Goals) → NextComesTo bank.old list next out → ClausesComeTo bank.new l no_clauses (these_goals out)) }
+    ensures kind { IfOk result (λ l. is_assumed l.assumed ≡ true) }
     ensures met { IfOk result (λ l. (b : Nodes) → clause_list_met b l ≡ list_met b list) }
     ensures less { IfOk result (λ l. (c : Nodes) → Extends bank.new c → clause_list_work c l < list_work c list + formula_work c next) }
 {
@@ -191,6 +195,7 @@ fn negated(
     ensures frames { OnOk result (All (IsFrameIn bank.now) frames.new.items) }
     ensures within { IfOk result (IsGoalListIn bank.now) }
     ensures comes { IfOk result (λ l. (out : Goals) (whole : Flat) → NextComesTo bank.now list next out → AllTurn bank.now (reverse frames.old.items) (these_goals out) whole → InnerComesTo bank.now (Inner.Goals l) frames.new.items whole) }
+    ensures kind { OnOk result ((k : Bool) → IsNested k true (reverse frames.old.items) → IsNested k true (reverse frames.new.items)) }
     ensures met { IfOk result (λ l. (b : Nodes) → list_met b l + frames_met b frames.new.items ≡ list_met b list + frames_met b frames.old.items) }
     ensures less { IfOk result (λ l. (c : Nodes) → Extends bank.now c → list_work c l + frames_work c frames.new.items < list_work c list + formula_work c next + frames_work c frames.old.items) }
 {
@@ -218,6 +223,7 @@ fn next_goal(
     ensures frames { OnOk result (All (IsFrameIn bank.new) frames.new.items) }
     ensures within { IfOk result (IsInnerIn bank.new) }
     ensures comes { IfOk result (λ inner. (out : Goals) (whole : Flat) → NextComesTo bank.old list next out → AllTurn bank.old (reverse frames.old.items) (these_goals out) whole → InnerComesTo bank.new inner frames.new.items whole) }
+    ensures kind { IfOk result (λ inner. (k : Bool) → IsNested k true (reverse frames.old.items) → IsNested k (is_in_goals inner) (reverse frames.new.items)) }
     ensures met { IfOk result (λ inner. (b : Nodes) → inner_met b inner + frames_met b frames.new.items ≡ list_met b list + frames_met b frames.old.items) }
     ensures less { IfOk result (λ inner. (c : Nodes) → Extends bank.new c → inner_work c inner + frames_work c frames.new.items < list_work c list + formula_work c next + frames_work c frames.old.items) }
 {
@@ -268,6 +274,7 @@ fn take_goals(
     ensures frames { OnOk result ((b : Nodes) → All (IsFrameIn b) frames.old.items → IsFrameIn b frame → AreGoalsIn b goals.items → All (IsFrameIn b) frames.new.items) }
     ensures within { IfOk result (λ inner. (b : Nodes) → IsFrameIn b frame → AreGoalsIn b goals.items → IsInnerIn b inner) }
     ensures comes { IfOk result (λ inner. (b : Nodes) (gs : Goals) (next whole : Flat) → IsFrameIn b frame → Reads b goals.items gs → Turns b frame gs next → AllTurn b (reverse frames.old.items) next whole → InnerComesTo b inner frames.new.items whole) }
+    ensures kind { IfOk result (λ inner. (k : Bool) → IsNested k (waits_in_goals frame) (reverse frames.old.items) → IsNested k (is_in_goals inner) (reverse frames.new.items)) }
     ensures met { IfOk result (λ inner. (b : Nodes) → inner_met b inner + frames_met b frames.new.items ≡ frame_met b frame + frames_met b frames.old.items + count_in_goals (goals_of b goals.items)) }
     ensures less { IfOk result (λ inner. (c : Nodes) → inner_work c inner + frames_work c frames.new.items ≤ frame_work c frame + frames_work c frames.old.items) }
 {
@@ -319,6 +326,7 @@ fn end_goals(
     ensures frames { OnOk result (All (IsFrameIn bank.now) frames.new.items) }
     ensures within { IfOk result (IsMoveIn bank.now) }
     ensures comes { IfOk result (λ m. (whole : Flat) → InnerComesTo bank.now (Inner.Goals list) frames.old.items whole → MoveComesTo bank.now m frames.new.items whole) }
+    ensures kind { IfOk result (λ m. (k : Bool) → IsNested k true (reverse frames.old.items) → IsMoveNested k m (reverse frames.new.items)) }
     ensures met { IfOk result (λ m. (b : Nodes) → move_met b m + frames_met b frames.new.items ≡ list_met b list + frames_met b frames.old.items) }
     ensures less { IfOk result (λ m. (c : Nodes) → move_work c m + frames_work c frames.new.items < list_work c list + frames_work c frames.old.items) }
 {
@@ -343,6 +351,7 @@ fn goals_move(
     ensures frames { OnOk result (All (IsFrameIn bank.new) frames.new.items) }
     ensures within { IfOk result (IsMoveIn bank.new) }
     ensures comes { IfOk result (λ m. (whole : Flat) → InnerComesTo bank.old (Inner.Goals list) frames.old.items whole → MoveComesTo bank.new m frames.new.items whole) }
+    ensures kind { IfOk result (λ m. (k : Bool) → IsNested k true (reverse frames.old.items) → IsMoveNested k m (reverse frames.new.items)) }
     ensures met { IfOk result (λ m. (b : Nodes) → move_met b m + frames_met b frames.new.items ≡ list_met b list + frames_met b frames.old.items) }
     ensures less { IfOk result (λ m. (c : Nodes) → Extends bank.new c → move_work c m + frames_work c frames.new.items < list_work c list + frames_work c frames.old.items) }
 {
@@ -370,6 +379,7 @@ fn clause_body(
     ensures frames { OnOk result (All (IsFrameIn bank.now) frames.new.items) }
     ensures within { IfOk result (IsGoalListIn bank.now) }
     ensures comes { IfOk result (λ l. (out whole : Flat) → PartComesTo bank.now list head.0 out → AllTurn bank.now (reverse frames.old.items) out whole → InnerComesTo bank.now (Inner.Goals l) frames.new.items whole) }
+    ensures kind { OnOk result ((k : Bool) → IsNested k (is_assumed list.assumed) (reverse frames.old.items) → IsNested k true (reverse frames.new.items)) }
     ensures met { IfOk result (λ l. (b : Nodes) → list_met b l + frames_met b frames.new.items ≡ suc (clause_list_met b list + frames_met b frames.old.items)) }
     ensures count { OnOk result (count.new ≡ suc count.old) }
     ensures few { OnOk result (count.new ≤ MAX_CLAUSES) }
@@ -410,6 +420,7 @@ fn next_part(
     ensures frames { OnOk result (All (IsFrameIn bank.new) frames.new.items) }
     ensures within { IfOk result (IsInnerIn bank.new) }
     ensures comes { IfOk result (λ inner. (out whole : Flat) → PartComesTo bank.old list part.0 out → AllTurn bank.old (reverse frames.old.items) out whole → InnerComesTo bank.new inner frames.new.items whole) }
+    ensures kind { IfOk result (λ inner. (k : Bool) → IsNested k (is_assumed list.assumed) (reverse frames.old.items) → IsNested k (is_in_goals inner) (reverse frames.new.items)) }
     ensures met { IfOk result (λ inner. (b : Nodes) → clause_list_met b list + frames_met b frames.old.items ≡ count.old → inner_met b inner + frames_met b frames.new.items ≡ count.new) }
     ensures few { OnOk result (count.old ≤ MAX_CLAUSES → count.new ≤ MAX_CLAUSES) }
     ensures over { IfErr result (IsOver ((out whole : Flat) → clause_list_met bank.old list + frames_met bank.old frames.old.items ≡ count.old → PartComesTo bank.old list part.0 out → AllTurn bank.old (reverse frames.old.items) out whole → PassesLimit (flat_count whole))) }
@@ -455,6 +466,7 @@ fn end_clauses(
     ensures frames { OnOk result (All (IsFrameIn bank.now) frames.new.items) }
     ensures within { IfOk result (IsMoveIn bank.now) }
     ensures comes { IfOk result (λ m. (whole : Flat) → InnerComesTo bank.now (Inner.Clauses list) frames.old.items whole → MoveComesTo bank.now m frames.new.items whole) }
+    ensures kind { IfOk result (λ m. (k : Bool) → IsNested k (is_assumed list.assumed) (reverse frames.old.items) → IsMoveNested k m (reverse frames.new.items)) }
     ensures met { IfOk result (λ m. (b : Nodes) → move_met b m + frames_met b frames.new.items ≡ clause_list_met b list + frames_met b frames.old.items) }
     ensures less { IfOk result (λ m. (c : Nodes) → move_work c m + frames_work c frames.new.items < clause_list_work c list + frames_work c frames.old.items) }
 {
@@ -490,6 +502,7 @@ fn clauses_move(
     ensures frames { OnOk result (All (IsFrameIn bank.new) frames.new.items) }
     ensures within { IfOk result (IsMoveIn bank.new) }
     ensures comes { IfOk result (λ m. (whole : Flat) → InnerComesTo bank.old (Inner.Clauses list) frames.old.items whole → MoveComesTo bank.new m frames.new.items whole) }
+    ensures kind { IfOk result (λ m. (k : Bool) → IsNested k (is_assumed list.assumed) (reverse frames.old.items) → IsMoveNested k m (reverse frames.new.items)) }
     ensures met { IfOk result (λ m. (b : Nodes) → clause_list_met b list + frames_met b frames.old.items ≡ count.old → move_met b m + frames_met b frames.new.items ≡ count.new) }
     ensures few { OnOk result (count.old ≤ MAX_CLAUSES → count.new ≤ MAX_CLAUSES) }
     ensures over { IfErr result (IsOver (Passes bank.old (Inner.Clauses list) frames.old.items count.old)) }
@@ -526,6 +539,7 @@ pub(crate) fn step(
     ensures frames { OnOk result (All (IsFrameIn bank.new) frames.new.items) }
     ensures within { IfOk result (IsMoveIn bank.new) }
     ensures comes { IfOk result (λ m. (whole : Flat) → InnerComesTo bank.old inner frames.old.items whole → MoveComesTo bank.new m frames.new.items whole) }
+    ensures kind { IfOk result (λ m. (k : Bool) → IsNested k (is_in_goals inner) (reverse frames.old.items) → IsMoveNested k m (reverse frames.new.items)) }
     ensures met { IfOk result (λ m. (b : Nodes) → inner_met b inner + frames_met b frames.old.items ≡ count.old → move_met b m + frames_met b frames.new.items ≡ count.new) }
     ensures few { OnOk result (count.old ≤ MAX_CLAUSES → count.new ≤ MAX_CLAUSES) }
     ensures over { IfErr result (IsOver (Passes bank.old inner frames.old.items count.old)) }

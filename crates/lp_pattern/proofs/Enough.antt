@@ -4,7 +4,7 @@ use Rattle.std.proofs.lemmas.List.{length-append, reverse-append, reverse-revers
 use Rattle.lp_term.specs.declared.node.TermId.{TermId}
 use Rattle.lp_pattern.specs.Settling.{AreEnough, IsPushed, visit_tasks}
 use Rattle.lp_pattern.specs.declared.look.Looked.{Looked}
-use Rattle.lp_pattern.specs.declared.patterns.Opened.{Opened}
+use Rattle.lp_pattern.specs.declared.opened.Opened.{Opened}
 use Rattle.lp_pattern.specs.declared.settle.Task.{Task}
 
 -- one term more

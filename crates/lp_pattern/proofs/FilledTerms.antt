@@ -160,10 +160,6 @@ parameter_stays a b c n id of made E l k e h same =
 pub bound_made : (b : Nodes) (s : Bindings) (c : Closing) (id value made : TermId) (shape : Shape) → shape ≡ Shape.Bound value → HasShape b s id.0 shape → IsReading b s c → IsFilledTerm b c value.0 made.0 → IsMade b b c id.0 made
 bound_made b s c id value made shape e h R F = record { within = F.made; is = F.is ∙ sym (transport (HasShape b s id.0) e h c R) }
 
--- the term at the end
-pub term_filled : (a b : Nodes) (c : Closing) (id made : TermId) → Extends a b → id.0 < length a.terms → IsFilledTerm b c id.0 made.0 → tree b made.0 ≡ closed c (tree a id.0)
-term_filled a b c id made E k F = F.is ∙ ap (closed c) (E.same_terms id.0 k)
-
 -- the shapes, over slices of their lists
 pub typed_shape : (b : Nodes) (s : Bindings) (i n : ℕ) (shape : Shape) (types : Vec TypeId Global) (ts : List TypeId) → shape ≡ Shape.Typed n types → ts ≡ types.items → HasShape b s i shape →
     AreTypesOf b ts × (tree b i ≡ atom (constant n (map (λ t. type_tree b t.0) ts)))

@@ -96,10 +96,6 @@ one_noted b c θ old new top made E F n k l e i j g = elim (cases_eq top.0 i) [
   | inr ne ↦ filled_later b c θ i j.0 E (F i j (sym (ap (λ x. if x then Some made else get nat_eq old.made i) (ne_eqb top.0 i ne)) ∙ sym (n i) ∙ g))
 ]
 
--- what stands at the root
-pub root_filled : (b c : Nodes) (θ : ℕ → Ty) (root made : TypeId) (T : Ty) → Extends b c → root.0 < length b.types → IsFilledAs c θ root.0 made.0 → instance θ (type_tree b root.0) ≡ T → type_tree c made.0 ≡ T
-root_filled b c θ root made T E k F e = F.is ∙ ap (instance θ) (E.same_types root.0 k) ∙ e
-
 -- the same lists
 pub become : (b : Nodes) (θ : ℕ → Ty) (xs us ys vs : List TypeId) → xs ≡ us → ys ≡ vs → HaveBecome b θ xs ys → HaveBecome b θ us vs
 become b θ xs us ys vs e f h = transport (λ l. HaveBecome b θ l vs) e (transport (HaveBecome b θ xs) f h)

@@ -18,7 +18,7 @@ use Rattle.lp_pattern.specs.declared.fault.PatternRefusal.TheVariants.{Deep}
 use Rattle.lp_pattern.specs.declared.fault.PatternRefusal.TheVariants as refusal
 use Rattle.lp_pattern.specs.declared.look.Head.{Head}
 use Rattle.lp_pattern.specs.declared.look.Looked.{Looked}
-use Rattle.lp_pattern.specs.declared.patterns.Opened.{Opened}
+use Rattle.lp_pattern.specs.declared.opened.Opened.{Opened}
 use Rattle.lp_pattern.specs.declared.scan.Visit.{Visit}
 use Rattle.lp_pattern.specs.declared.settle.Task.{Task}
 use Rattle.lp_pattern.specs.Passing.{outer, Passed, outer_of, outers_of}

@@ -17,7 +17,7 @@ use Rattle.lp_model.specs.Pair.{Closing, closed}
 use Rattle.lp_model.specs.Scan.{Side, allows_head, Scanned, broken, whole, above, beside}
 use Rattle.lp_pattern.specs.declared.bindings.Bindings.{Bindings}
 use Rattle.lp_pattern.specs.declared.fault.PatternRefusal.TheVariants.{Deep}
-use Rattle.lp_pattern.specs.declared.patterns.Opened.{Opened}
+use Rattle.lp_pattern.specs.declared.opened.Opened.{Opened}
 use Rattle.lp_pattern.specs.declared.scan.Scanned.{Scanned as Noted}
 use Rattle.lp_pattern.specs.declared.settle.Task.{Task}
 use Rattle.lp_pattern.specs.Settling.{Settles, settles_abs, settles_rigid, settles_pattern, settles_open, SettleAll, settle_none, settle_more, indexed_in, Ends, Moves}

@@ -65,3 +65,4 @@ pub mod SolutionsFound
 pub mod TypedRuns
 mod Grounds
 mod Enough
+mod Falls

@@ -25,7 +25,7 @@ use Rattle.lp_pattern.specs.declared.bindings.Bindings.{Bindings}
 use Rattle.lp_pattern.specs.declared.look.Head.{Head}
 use Rattle.lp_pattern.specs.declared.look.Looked.{Looked}
 use Rattle.lp_pattern.specs.declared.patterns.Arguments.{Arguments}
-use Rattle.lp_pattern.specs.declared.patterns.Opened.{Opened}
+use Rattle.lp_pattern.specs.declared.opened.Opened.{Opened}
 use Rattle.lp_pattern.specs.declared.settle.Application.{Application}
 use Rattle.lp_pattern.specs.declared.settle.Task.{Task}
 use Rattle.lp_pattern.specs.Seen.{IsRigid, IsLooked, IsReachedWithin}
@@ -55,10 +55,9 @@ first_task m b c cs old t made r w = transport (λ l. Ends m b c cs l (map (unde
 pub body_moves : (b : Nodes) (s : Bindings) (cs : List ℕ) (o inner : Opened) (q : Looked) (body : TermId) (old mid new : List Task) (made : List TermId) → IsLooked b s q → q.head ≡ Head.Abstraction body → inner.level ≡ o.level →
     inner.depth ≡ suc o.depth → mid ≡ old ++ Task.Abstract q.whole body ∷ [] → new ≡ mid ++ Task.Visit body inner ∷ [] → Moves b b s cs (old ++ Task.Visit q.whole o ∷ []) made new made
 body_moves b s cs o inner q body old mid new made k h x y e f = λ c i j m r w.
-    left_at m b b c cs new (Task.Visit body (record { level = o.level; depth = suc o.depth }) ∷ Task.Abstract q.whole body ∷ reverse old) made r (extends_same b) w.known
-    (ap reverse f ∙ next_task mid (Task.Visit body inner) ∙
-    (λ z. Task.Visit body (record { level = x z; depth = y z }) ∷ (ap reverse e ∙ next_task old (Task.Abstract q.whole body)) z))
-    (body_ends m b s c cs o q body (reverse old) (map (under b c) (reverse made)) r j k h (first_task m b c cs old (Task.Visit q.whole o) made r w))
+    left_at m b b c cs new (Task.Visit body inner ∷ Task.Abstract q.whole body ∷ reverse old) made r (extends_same b) w.known
+    (ap reverse f ∙ next_task mid (Task.Visit body inner) ∙ ap (λ l. Task.Visit body inner ∷ l) (ap reverse e ∙ next_task old (Task.Abstract q.whole body)))
+    (body_ends m b s c cs o inner q body x y (reverse old) (map (under b c) (reverse made)) r j k h (first_task m b c cs old (Task.Visit q.whole o) made r w))
 
 pub rigid_moves : (b d : Nodes) (s : Bindings) (cs : List ℕ) (o : Opened) (q : Looked) (head : TermId) (old new : List Task) (made : List TermId) → Extends b d → IsLooked b s q → q.head ≡ Head.Rigid → head.0 < length d.terms →
     IsHeadIn b d cs o.level o.depth q.top head → IsPushed q head o old new → Moves b d s cs (old ++ Task.Visit q.whole o ∷ []) made new made

@@ -18,7 +18,7 @@ use Rattle.lp_pattern.specs.declared.bindings.Bindings.{Bindings}
 use Rattle.lp_pattern.specs.declared.look.Head.{Head}
 use Rattle.lp_pattern.specs.declared.look.Looked.{Looked}
 use Rattle.lp_pattern.specs.declared.patterns.Arguments.{Arguments}
-use Rattle.lp_pattern.specs.declared.patterns.Opened.{Opened}
+use Rattle.lp_pattern.specs.declared.opened.Opened.{Opened}
 use Rattle.lp_pattern.specs.declared.settle.Application.{Application}
 use Rattle.lp_pattern.specs.declared.settle.Task.{Task}
 use Rattle.lp_pattern.specs.Seen.{IsHead, IsLooked, IsReachedWithin}
@@ -178,11 +178,16 @@ body_read m l d j b c body u q s =
     let z : suc (l + d) ≡ l + suc d = omega arith in
     transport (λ n. Settles m n (read_at b c l (suc d) body) u) z (transport (λ x. Settles m (suc (l + d)) x u) (opened_once l d (l + d) (under b c body) refl) s)
 
-pub body_ends : (m : ℕ) (b : Nodes) (s : Bindings) (c : Closing) (cs : List ℕ) (o : Opened) (q : Looked) (body : TermId) (ts : List Task) (made : List Term) (r : Term) → IsShut c → IsLooked b s q → q.head ≡ Head.Abstraction body →
-    Ends m b c cs (Task.Visit q.whole o ∷ ts) made r → Ends m b c cs (Task.Visit body (record { level = o.level; depth = suc o.depth }) ∷ Task.Abstract q.whole body ∷ ts) made r
-body_ends m b s c cs o q body ts made r i k e h =
+-- a body is left to be visited, below so many abstractions
+abbrev BodyEnds : (m : ℕ) → Nodes → Closing → List ℕ → (old body : TermId) → List Task → List Term → Term → (level depth : ℕ) → Type 0
+BodyEnds m b c cs old body ts made r l d = (v : Term) × (body.0 < length b.terms) × Settles m (l + d) (read_at b c l d body) v × Ends m b c cs (Task.Abstract old body ∷ ts) (indexed_in cs l d v ∷ made) r
+
+pub body_ends : (m : ℕ) (b : Nodes) (s : Bindings) (c : Closing) (cs : List ℕ) (o inner : Opened) (q : Looked) (body : TermId) → inner.level ≡ o.level → inner.depth ≡ suc o.depth → (ts : List Task) (made : List Term) (r : Term) → IsShut c → IsLooked b s q →
+    q.head ≡ Head.Abstraction body → Ends m b c cs (Task.Visit q.whole o ∷ ts) made r → Ends m b c cs (Task.Visit body inner ∷ Task.Abstract q.whole body ∷ ts) made r
+body_ends m b s c cs o inner q body x y ts made r i k e h =
     let w = as_body m (o.level + o.depth) (read_at b c o.level o.depth q.whole) h.0 (subst (up (opens o.level o.depth)) (under b c body)) (seen_there m _ _ (abstraction_at b s c o.level o.depth q body i k e)) h.2 in
-    let n : IsHead b s (Head.Abstraction body) (tree b q.top.0) q.arguments.items = transport (λ y. IsHead b s y (tree b q.top.0) q.arguments.items) e k.head in (
+    let n : IsHead b s (Head.Abstraction body) (tree b q.top.0) q.arguments.items = transport (λ z. IsHead b s z (tree b q.top.0) q.arguments.items) e k.head in
+    let at : BodyEnds m b c cs q.whole body ts made r o.level (suc o.depth) = (
       w.value,
       n.1,
       body_read m o.level o.depth _ b c body w.value refl w.settles,
@@ -193,9 +198,10 @@ body_ends m b s c cs o q body ts made r i k e h =
         n.1,
         abstraction_whole b s c q body i k e,
         refl,
-        transport (λ x. Ends m b c cs ts (x ∷ made) r) (ap (indexed_in cs o.level o.depth) w.is ∙ indexed_abs cs o.level o.depth w.value) h.3,
+        transport (λ z. Ends m b c cs ts (z ∷ made) r) (ap (indexed_in cs o.level o.depth) w.is ∙ indexed_abs cs o.level o.depth w.value) h.3,
       ),
-    )
+    ) in
+    transport (λ l. BodyEnds m b c cs q.whole body ts made r l inner.depth) (sym x) (transport (λ d. BodyEnds m b c cs q.whole body ts made r o.level d) (sym y) at)
 
 -- of a head on arguments
 reverse_more : (f : Term → Term) (v : Term) (vs made : List Term) → reverse (map f (v ∷ vs)) ++ made ≡ reverse (map f vs) ++ (f v ∷ made)

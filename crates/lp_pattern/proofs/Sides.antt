@@ -1,11 +1,12 @@
 -- What a side allows, eigenconstant by eigenconstant.
-use Rattle.std.proofs.Common.{◌≡◌, ℕ, ◌<◌, ◌≤◌, List, [], ◌∷◌, ◌++◌, ◌∙◌, refl, sym, ap, Bool, true, false, nat_eq, ◌||◌}
+use Rattle.std.proofs.Common.{◌≡◌, ℕ, suc, ◌<◌, ◌≤◌, length, List, [], ◌∷◌, ◌++◌, ◌∙◌, refl, sym, ap, Bool, true, false, Option, Some, nat_eq, ◌||◌, if◌then◌else◌}
 use Rattle.std.specs.Prelude.{◌&&◌, nat_le, nat_lt}
 use Rattle.std.specs.List.{list_any}
 use Rattle.std.proofs.lemmas.Bool.Decides.{nat_tests}
 use Rattle.std.proofs.Common.{arith}
 use Rattle.lp_model.specs.Patterns.{member}
 use Rattle.lp_model.specs.Scan.{Side, allows, allow}
+use Rattle.lp_pattern.specs.Settling.{side_index}
 
 eq_sym : (k c : ℕ) → nat_eq c k ≡ nat_eq k c
 eq_sym k c = grind (arith, nat_tests)
@@ -55,3 +56,12 @@ allows_last s k r l m e =
     let f : nat_le k s.level ≡ false = grind (arith, nat_tests) in
     let g : nat_lt s.pair k ≡ false = grind (arith, nat_tests) in
     e ∙ or_false false (member k s.arguments) ∙ (λ i. sym f i || member k s.arguments || sym g i)
+
+-- the index of an eigenconstant is that of one of the side's abstractions
+one_below : (b : Bool) (o : Option ℕ) (n m i : ℕ) → (if b then Some n else o) ≡ Some i → n < m → (o ≡ Some i → i < m) → i < m
+one_below true o n m i e l f = let same : n ≡ i = cc in omega (arith, same, l)
+one_below false o n m i e l f = f e
+
+pub side_below : (cs : List ℕ) (k i : ℕ) → side_index cs k ≡ Some i → i < length cs
+side_below [] k i e = absurd (cc)
+side_below (c ∷ cs) k i e = one_below (nat_eq k c) (side_index cs k) (length cs) (suc (length cs)) i e (omega arith) (λ q. let below = side_below cs k i q in omega (arith, below))

@@ -23,3 +23,4 @@ pub mod Valuing
 pub mod Visiting
 pub mod FillingTerms
 pub mod Settling
+pub mod inner

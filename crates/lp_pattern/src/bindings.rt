@@ -76,10 +76,8 @@ impl Bindings {
         ensures unchanged { OnErr result (self.new.terms.entries ≡ self.old.terms.entries) }
         ensures grown { Grows self.old self.new }
     {
-        match self.terms.insert(variable, to) {
-            Ok(_) => Ok(()),
-            Err(_) => Err(Memory),
-        }
+        self.terms.insert(variable, to)?;
+        Ok(())
     }
 
     // Binds a type variable that is not bound.
@@ -89,10 +87,8 @@ impl Bindings {
         ensures terms { self.new.terms ≡ self.old.terms }
         ensures unchanged { OnErr result (self.new.types.entries ≡ self.old.types.entries) }
     {
-        match self.types.insert(variable, to) {
-            Ok(_) => Ok(()),
-            Err(_) => Err(Memory),
-        }
+        self.types.insert(variable, to)?;
+        Ok(())
     }
 
     // Binds a logic variable. `Memory` stands for one that is bound already, too.

@@ -5,6 +5,7 @@ ghost use Rattle.lp_model.specs.Pair.{Closing};
 ghost use Rattle.lp_model.specs.Rule.{compare_all};
 ghost use Rattle.lp_pattern.specs.declared.look.Head.TheVariants.{Rigid, Variable};
 ghost use Rattle.lp_pattern.specs.Growing.{IsPairOf};
+ghost use Rattle.lp_pattern.specs.inner.Falling.{walk_left, level_on_top};
 ghost use Rattle.lp_pattern.specs.Under.{IsReading, under};
 ghost use Rattle.lp_pattern.specs.Seen.{IsLooked};
 ghost use Rattle.lp_pattern.specs.Comparing.{IsComparedTo, IsPassed, IsHeadCompared, IsHeadPassed, IsStep, IsAbstraction, are_apart, compare_pairs, opened_pair, pair_at, pair_under, pairs_under, pairs_of};
@@ -13,7 +14,7 @@ use crate::bindings::Bindings;
 use crate::fault::PatternRefusal;
 use crate::heads::{have_same_name, type_pairs};
 use crate::look::{CONTRACTIONS, Head, Looked, look};
-use crate::patterns::LEVELS;
+use crate::opened::LEVELS;
 use crate::types::are_same_types;
 use crate::units::spend;
 use lp_base::Memory;
@@ -32,6 +33,7 @@ pub(crate) fn opened(
     requires right { right.0 < length bank.old.terms }
     ensures kept { Extends bank.old bank.new }
     ensures within { IfOk result (IsPairOf (length bank.new.terms)) }
+    ensures deeper { IfOk result (λ pair. (pair.level ≡ suc level) × (level < 4611686018427387904)) }
     ensures opened { IfOk result (λ pair. (c : Closing) → pair_under bank.new c pair ≡ opened_pair level (under bank.old c left) (under bank.old c right)) }
 {
     if level >= LEVELS {
@@ -79,6 +81,7 @@ fn have_same_head(
     requires looked_one { IsLooked bank.now bindings.now one.now }
     requires looked_other { IsLooked bank.now bindings.now other.now }
     ensures arguments { IfOk result (λ same. same ≡ true → length one.now.arguments.items ≡ length other.now.arguments.items) }
+    ensures fewer { OnOk result (units.new ≤ units.old) }
     ensures compared { IfOk result (λ same. (c : Closing) → IsReading bank.now bindings.now c →
         IsHeadCompared same units.old units.new (under bank.now c one.now.top) (under bank.now c other.now.top) (length one.now.arguments.items) (length other.now.arguments.items)) }
     ensures refused { IfErr result (λ r. (c : Closing) → IsReading bank.now bindings.now c →
@@ -110,6 +113,7 @@ fn open_sides(
     requires left { All (IsPairOf (length bank.old.terms)) left.old.items }
     ensures kept { Extends bank.old bank.new }
     ensures left { OnOk result (All (IsPairOf (length bank.new.terms)) left.new.items) }
+    ensures falls { OnOk result (walk_left units.now (level_on_top left.new.items) < walk_left units.now level) }
     ensures compared { IfOk result (λ same. (c : Closing) → IsReading bank.old bindings.now c → (n : ℕ) → IsStep same units.now units.now
         (compare_pairs n (pair_at level (under bank.old c one.now.whole) (under bank.old c other.now.whole) ∷ pairs_under bank.old c left.old.items))
         (compare_pairs n (pairs_under bank.new c left.new.items))) }
@@ -159,6 +163,8 @@ fn both_rigid(
     requires looked_other { IsLooked bank.now bindings.now other.now }
     requires left { All (IsPairOf (length bank.now.terms)) left.old.items }
     ensures left { OnOk result (All (IsPairOf (length bank.now.terms)) left.new.items) }
+    ensures fewer { OnOk result (units.new ≤ units.old) }
+    ensures falls { OnOk result (walk_left units.new (level_on_top left.new.items) < walk_left units.old level) }
     ensures compared { IfOk result (λ same. (c : Closing) → IsReading bank.now bindings.now c → (n : ℕ) → IsStep same units.old units.new
         (compare_pairs n (pair_at level (under bank.now c one.now.whole) (under bank.now c other.now.whole) ∷ pairs_under bank.now c left.old.items))
         (compare_pairs n (pairs_under bank.now c left.new.items))) }
@@ -201,6 +207,8 @@ fn both_variables(
     requires looked_other { IsLooked bank.now bindings.now other.now }
     requires left { All (IsPairOf (length bank.now.terms)) left.old.items }
     ensures left { OnOk result (All (IsPairOf (length bank.now.terms)) left.new.items) }
+    ensures fewer { OnOk result (units.new ≤ units.old) }
+    ensures falls { OnOk result (walk_left units.new (level_on_top left.new.items) < walk_left units.old level) }
     ensures compared { IfOk result (λ same. (c : Closing) → IsReading bank.now bindings.now c → (n : ℕ) → IsStep same units.old units.new
         (compare_pairs n (pair_at level (under bank.now c one.now.whole) (under bank.now c other.now.whole) ∷ pairs_under bank.now c left.old.items))
         (compare_pairs n (pairs_under bank.now c left.new.items))) }
@@ -226,6 +234,8 @@ fn apart(
     requires apart { are_apart one.now.head other.now.head ≡ true }
     requires looked_one { IsLooked bank.now bindings.now one.now }
     requires looked_other { IsLooked bank.now bindings.now other.now }
+    ensures fewer { OnOk result (units.new ≤ units.old) }
+    ensures falls { OnOk result (walk_left units.new (level_on_top left.now.items) < walk_left units.old level) }
     ensures compared { IfOk result (λ same. (c : Closing) → IsReading bank.now bindings.now c → (n : ℕ) → IsStep same units.old units.new
         (compare_pairs n (pair_at level (under bank.now c one.now.whole) (under bank.now c other.now.whole) ∷ pairs_under bank.now c left.now.items))
         (compare_pairs n (pairs_under bank.now c left.now.items))) }
@@ -252,6 +262,8 @@ fn by_heads(
     requires left { All (IsPairOf (length bank.old.terms)) left.old.items }
     ensures kept { Extends bank.old bank.new }
     ensures left { OnOk result (All (IsPairOf (length bank.new.terms)) left.new.items) }
+    ensures fewer { OnOk result (units.new ≤ units.old) }
+    ensures falls { OnOk result (walk_left units.new (level_on_top left.new.items) < walk_left units.old level) }
     ensures compared { IfOk result (λ same. (c : Closing) → IsReading bank.old bindings.now c → (n : ℕ) → IsStep same units.old units.new
         (compare_pairs n (pair_at level (under bank.old c one.now.whole) (under bank.old c other.now.whole) ∷ pairs_under bank.old c left.old.items))
         (compare_pairs n (pairs_under bank.new c left.new.items))) }
@@ -300,6 +312,8 @@ fn compare(
     requires left { All (IsPairOf (length bank.old.terms)) left.old.items }
     ensures kept { Extends bank.old bank.new }
     ensures left { OnOk result (All (IsPairOf (length bank.new.terms)) left.new.items) }
+    ensures fewer { OnOk result (units.new ≤ units.old) }
+    ensures falls { OnOk result (walk_left units.new (level_on_top left.new.items) < walk_left units.old pair.level) }
     ensures compared { IfOk result (λ same. (c : Closing) → IsReading bank.old bindings.now c → (n : ℕ) → IsStep same units.old units.new
         (compare_pairs n (pair_under bank.old c pair ∷ pairs_under bank.old c left.old.items)) (compare_pairs n (pairs_under bank.new c left.new.items))) }
     ensures refused { IfErr result (λ r. (c : Closing) → IsReading bank.old bindings.now c → (n : ℕ) → n ≤ 1000000 → IsPassed r units.old
@@ -325,6 +339,7 @@ pub(crate) fn are_same(
     requires lefts { All (λ t. t.0 < length bank.old.terms) lefts.now }
     requires rights { All (λ t. t.0 < length bank.old.terms) rights.now }
     ensures kept { Extends bank.old bank.new }
+    ensures fewer { OnOk result (units.new ≤ units.old) }
     ensures compared { IfOk result (λ same. (c : Closing) → IsReading bank.old bindings.now c → (n : ℕ) → IsComparedTo same units.old units.new
         (compare_all n level (map (under bank.old c) lefts.now) (map (under bank.old c) rights.now))) }
     ensures refused { IfErr result (λ r. (c : Closing) → IsReading bank.old bindings.now c → (n : ℕ) → n ≤ 1000000 → IsPassed r units.old
@@ -332,7 +347,7 @@ pub(crate) fn are_same(
 {
     let mut left = Vec::new(alloc);
     push_pairs(lefts, rights, level, &mut left)?;
-    'pairs: for _ in 0..u64::MAX {
+    'pairs: loop {
         let Some(pair) = left.pop() else {
             return Ok(true);
         };
@@ -341,5 +356,4 @@ pub(crate) fn are_same(
             return Ok(false);
         }
     }
-    Err(PatternRefusal::Memory)
 }

@@ -302,11 +302,10 @@ pub fn filled(
     let root = bank.inside(term)?;
     let mut done = TermsFilled::new(alloc);
     let mut left = Vec::new(alloc);
-    left.push(root)?;
     'terms: for _ in 0..u64::MAX {
         let Some(top) = left.pop() else {
-            let Some(made) = done.at(root) else {
-                return Err(Memory);
+            let Some(made) = made_of(alloc, bank, bindings, &mut done, root, &mut left)? else {
+                continue;
             };
             let made = bank.inside(made)?;
             return Ok(made);

@@ -139,6 +139,28 @@ fn rebuilt(bank: &mut Bank, id: TypeId, parts: &[TypeId], made: &[TypeId]) -> Re
     }
 }
 
+// What the type has become, where its parts are known; else they go on the stack.
+fn made_of(
+    alloc: Global,
+    bank: &mut Bank,
+    bindings: &Bindings,
+    done: &TypesFilled,
+    id: TypeId,
+    left: &mut Vec<TypeId>,
+) -> Result<Option<TypeId>, Memory>
+    requires { id.0 < length bank.old.types }
+    ensures kept { Extends bank.old bank.new }
+    ensures within { IfOk result (λ known. IfSome known (λ t. t.0 < length bank.new.types)) }
+    ensures made { IfOk result (λ known. IfSome known (λ t. (θ : ℕ → Ty) → AreTypes bank.old bindings.now θ → AreFilled bank.old θ done.now → IsLoose θ (type_tree bank.old id.0) → type_tree bank.new t.0 ≡ instance θ (type_tree bank.old id.0))) }
+{
+    let parts = parts_of(alloc, bank, id)?;
+    let Some(made) = known_parts(alloc, bank, bindings, done, parts.as_slice(), left)? else {
+        return Ok(None);
+    };
+    let new = rebuilt(bank, id, parts.as_slice(), made.as_slice())?;
+    Ok(Some(new))
+}
+
 // Takes the type on top of the stack, which stays there while its parts are not known.
 fn step(
     alloc: Global,
@@ -156,12 +178,10 @@ fn step(
     if done.at(top).is_some() {
         return Ok(());
     }
-    let parts = parts_of(alloc, bank, top)?;
     left.push(top)?;
-    let Some(made) = known_parts(alloc, bank, bindings, done, parts.as_slice(), left)? else {
+    let Some(new) = made_of(alloc, bank, bindings, done, top, left)? else {
         return Ok(());
     };
-    let new = rebuilt(bank, top, parts.as_slice(), made.as_slice())?;
     done.note(top, new)
 }
 
@@ -196,13 +216,11 @@ pub(crate) fn filled_in(
         return Ok(root);
     }
     let mut left = Vec::new(alloc);
-    left.push(root)?;
     'types: for _ in 0..u64::MAX {
         let Some(top) = left.pop() else {
-            let Some(made) = done.at(root) else {
-                return Err(Memory);
+            let Some(of) = made_of(alloc, bank, bindings, done, root, &mut left)? else {
+                continue;
             };
-            let of = bank.inside_type(made)?;
             return Ok(of);
         };
         step(alloc, bank, bindings, done, top, &mut left)?;

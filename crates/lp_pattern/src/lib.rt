@@ -17,6 +17,8 @@ mod heads;
 mod inside;
 // A term when it is looked at.
 mod look;
+// The abstractions that are open.
+mod opened;
 // Variables on distinct eigenconstants.
 mod patterns;
 // Pruning and lowering.

@@ -1,81 +1,19 @@
 // Whether the arguments of a variable are distinct eigenconstants above its level.
-ghost use Rattle.std.specs.Prelude.{◌≡◌, ◌≤◌, ◌<◌, ◌++◌, ◌&&◌, ℕ, suc, nat_lt, not, true, length, map, All, IfOk, OnOk, IfErr, IfSome};
+ghost use Rattle.std.specs.Prelude.{◌≡◌, ◌≤◌, ◌<◌, ◌++◌, ◌&&◌, ℕ, nat_lt, not, true, length, map, All, IfOk, OnOk, IfErr, IfSome};
 ghost use Rattle.lp_term.specs.Nodes.{Extends, tree};
-ghost use Rattle.lp_model.specs.Eigens.{eigen_of};
 ghost use Rattle.lp_model.specs.Look.{are_distinct, are_above};
 ghost use Rattle.lp_model.specs.Patterns.{member};
 ghost use Rattle.lp_model.specs.Pair.{Closing};
 ghost use Rattle.lp_pattern.specs.Under.{IsReading, under};
 ghost use Rattle.lp_pattern.specs.Seen.{IsLooked};
-ghost use Rattle.lp_pattern.specs.Settling.{open_index};
 ghost use Rattle.lp_pattern.specs.Stripping.{opens, eigen_past, name_term, is_at, wanted_at, IsShut, IsNameOf, IsNoAbstraction, IsStripped, Strips, HasForm, HasNoForm, IsTaken, read_at, IsAlone, IsEigen, HasNoEigen, IsPattern, HasNoPattern};
 
 use crate::bindings::Bindings;
 use crate::look::{CONTRACTIONS, Head, Looked, look};
+use crate::opened::Opened;
 use lp_base::Memory;
 use lp_term::{Bank, TermId, TermNode, TermRefusal};
 use std::alloc::Global;
-
-// Levels and depths are below this.
-pub(crate) const LEVELS: u64 = 4_611_686_018_427_387_904;
-
-// Abstractions that were opened: the outermost stands for the eigenconstant of the level plus one, and so on.
-#[derive(Clone, Copy)]
-pub(crate) struct Opened {
-    pub level: u64,
-    pub depth: u64,
-}
-
-impl Opened {
-    // None is open.
-    pub(crate) fn none(level: u64) -> Opened
-        ensures level { result.level ≡ level }
-        ensures depth { result.depth ≡ 0 }
-    {
-        Opened { level, depth: 0 }
-    }
-
-    // One more is open.
-    pub(crate) fn one_more(self) -> Result<Opened, Memory>
-        ensures { IfOk result (λ o. (o.level ≡ self.level) × (o.depth ≡ suc self.depth)) }
-    {
-        if self.depth >= LEVELS {
-            return Err(Memory);
-        }
-        Ok(Opened {
-            level: self.level,
-            depth: self.depth + 1,
-        })
-    }
-
-    // The eigenconstant that an index stands for.
-    pub(crate) fn eigen(self, place: u64) -> Result<Option<u64>, Memory>
-        ensures { IfOk result (λ o. o ≡ eigen_of (opens self.level self.depth place)) }
-    {
-        if place >= self.depth {
-            return Ok(None);
-        }
-        let above = self.depth - place;
-        if self.level > u64::MAX - above {
-            return Err(Memory);
-        }
-        Ok(Some(self.level + above))
-    }
-
-    // The index that stands for an eigenconstant.
-    pub(crate) fn index(self, eigen: u64) -> Option<u64>
-        ensures { result ≡ open_index self.level self.depth eigen }
-    {
-        if eigen <= self.level {
-            return None;
-        }
-        let above = eigen - self.level;
-        if above > self.depth {
-            return None;
-        }
-        Some(self.depth - above)
-    }
-}
 
 // The eigenconstants on which a variable stands.
 #[derive(Drop)]

@@ -30,7 +30,8 @@ use crate::compare::{are_one_variable, are_same, opened, push_pairs};
 use crate::fault::PatternRefusal;
 use crate::heads::{have_same_name, type_pairs};
 use crate::look::{CONTRACTIONS, Head, Looked, look};
-use crate::patterns::{Opened, pattern_of};
+use crate::opened::Opened;
+use crate::patterns::pattern_of;
 use crate::prune::{prune, put_variable};
 use crate::scan::{Scanned, scan};
 use crate::settle::settled;
@@ -71,6 +72,7 @@ fn decompose(
     ensures grown { Grows bindings.old bindings.new }
     ensures terms { bindings.new.terms ≡ bindings.old.terms }
     ensures pushed { OnOk result (todo.new.items ≡ todo.old.items ++ reverse (pairs_of level one.now.arguments.items other.now.arguments.items)) }
+    ensures fewer { OnOk result (units.new ≤ units.old) }
     ensures solved { OnOk result ((c : Closing) → IsReading bank.old bindings.old c → IsShut c → (n : ℕ) (r : Ruled) → (decompose n level (under bank.old c one.now.top) (map (under bank.old c) one.now.arguments.items) (under bank.old c other.now.top) (map (under bank.old c) other.now.arguments.items)) ≡ Some r → (units.old ≡ r.units + units.new) × IsDone r.verdict) }
     ensures given { OnOk result ((c : Closing) → IsReading bank.old bindings.old c → IsShut c → IsStill c.types → (n : ℕ) (r : Ruled) → (decompose n level (under bank.old c one.now.top) (map (under bank.old c) one.now.arguments.items) (under bank.old c other.now.top) (map (under bank.old c) other.now.arguments.items)) ≡ Some r → IsGiven bindings.old bank.new bindings.new c level (map (under bank.old c) one.now.arguments.items) (map (under bank.old c) other.now.arguments.items) r.verdict) }
     ensures refused { IfErr result (λ e. (c : Closing) → IsReading bank.old bindings.old c → IsShut c → (n : ℕ) → IsRuledOut n e units.old (decompose n level (under bank.old c one.now.top) (map (under bank.old c) one.now.arguments.items) (under bank.old c other.now.top) (map (under bank.old c) other.now.arguments.items))) }
@@ -238,6 +240,7 @@ fn solve_for(
     ensures kept { Extends bank.old bank.new }
     ensures more { next.old ≤ next.new }
     ensures grown { Grows bindings.old bindings.new }
+    ensures fewer { OnOk result (units.new ≤ units.old) }
     ensures judged { IfOk result (λ done. (c : Closing) → IsReading bank.old bindings.old c → IsShut c → (n j : ℕ) (t : Term) → steps weak_step j t ≡ Some (under bank.old c other.now.whole) →
         IsJudged done units.old units.new (solve_for n next.old (side_of side.now) t (view bank.old c other.now))) }
     ensures done { IfOk result (λ done. (c : Closing) → IsOpenReading bank.old bindings.old next.old c → (levels : ℕ → ℕ) → IsKnownSide levels next.old (side_of side.now) → (n j : ℕ) (t : Term) → steps weak_step j t ≡ Some (under bank.old c other.now.whole) → Within (Known levels next.old) 0 t → (r : Ruled) →
@@ -273,6 +276,7 @@ fn by_pattern(
     ensures kept { Extends bank.old bank.new }
     ensures more { next.old ≤ next.new }
     ensures grown { Grows bindings.old bindings.new }
+    ensures fewer { OnOk result (units.new ≤ units.old) }
     ensures judged { IfOk result (λ done. (c : Closing) → IsReading bank.old bindings.old c → IsShut c → (n : ℕ) (p : Equation) → IsSeenPair bank.old c level one.now other.now p →
         IsJudged done units.old units.new (by_rule_5 n next.old p (view bank.old c one.now) (view bank.old c other.now))) }
     ensures done { IfOk result (λ done. (c : Closing) → IsOpenReading bank.old bindings.old next.old c → (levels : ℕ → ℕ) → (n : ℕ) (p : Equation) → IsSeenPair bank.old c level one.now other.now p → IsKnownPair levels next.old p → (r : Ruled) →
@@ -308,6 +312,7 @@ fn on_others(
     ensures kept { Extends bank.old bank.new }
     ensures more { next.old ≤ next.new }
     ensures grown { Grows bindings.old bindings.new }
+    ensures fewer { OnOk result (units.new ≤ units.old) }
     ensures judged { IfOk result (λ done. (c : Closing) → IsReading bank.old bindings.old c → IsShut c → (n : ℕ) (p : Equation) → IsSeenPair bank.old c level one.now other.now p → (x l : ℕ) → one.now.head ≡ Variable x l → other.now.head ≡ Variable x l →
         IsJudged done units.old units.new (by_rule_4 n next.old p x l (map (under bank.old c) one.now.arguments.items) (map (under bank.old c) other.now.arguments.items))) }
     ensures done { IfOk result (λ done. (c : Closing) → IsOpenReading bank.old bindings.old next.old c → (levels : ℕ → ℕ) → (n : ℕ) (p : Equation) → IsSeenPair bank.old c level one.now other.now p → IsKnownPair levels next.old p → (x l : ℕ) → one.now.head ≡ Variable x l → other.now.head ≡ Variable x l → (r : Ruled) →
@@ -348,6 +353,7 @@ fn on_one_variable(
     ensures kept { Extends bank.old bank.new }
     ensures more { next.old ≤ next.new }
     ensures grown { Grows bindings.old bindings.new }
+    ensures fewer { OnOk result (units.new ≤ units.old) }
     ensures judged { IfOk result (λ done. (c : Closing) → IsReading bank.old bindings.old c → IsShut c → (n : ℕ) (p : Equation) → IsSeenPair bank.old c level one.now other.now p →
         IsJudged done units.old units.new (by_looks n next.old p (view bank.old c one.now) (view bank.old c other.now))) }
     ensures done { IfOk result (λ done. (c : Closing) → IsOpenReading bank.old bindings.old next.old c → (levels : ℕ → ℕ) → (n : ℕ) (p : Equation) → IsSeenPair bank.old c level one.now other.now p → IsKnownPair levels next.old p → (r : Ruled) →
@@ -396,6 +402,7 @@ fn by_variables(
     ensures kept { Extends bank.old bank.new }
     ensures more { next.old ≤ next.new }
     ensures grown { Grows bindings.old bindings.new }
+    ensures fewer { OnOk result (units.new ≤ units.old) }
     ensures judged { IfOk result (λ done. (c : Closing) → IsReading bank.old bindings.old c → IsShut c → (n : ℕ) (p : Equation) → IsSeenPair bank.old c level one.now other.now p →
         IsJudged done units.old units.new (by_looks n next.old p (view bank.old c one.now) (view bank.old c other.now))) }
     ensures done { IfOk result (λ done. (c : Closing) → IsOpenReading bank.old bindings.old next.old c → (levels : ℕ → ℕ) → (n : ℕ) (p : Equation) → IsSeenPair bank.old c level one.now other.now p → IsKnownPair levels next.old p → (r : Ruled) →
@@ -461,6 +468,7 @@ fn replace(
     ensures kept { Extends bank.old bank.new }
     ensures todo { OnOk result (All (IsPairOf (length bank.new.terms)) todo.new.items) }
     ensures grown { Grows bindings.old bindings.new }
+    ensures fewer { OnOk result (units.new ≤ units.old) }
     ensures replaced { OnOk result ((c : Closing) → IsReading bank.old bindings.old c → IsShut c → (n next : ℕ) (p : Equation) → IsSeenPair bank.old c level one.now other.now p → (r : Ruled) → rule n next p ≡ Some r → (units.old ≡ r.units + units.new) × IsDone r.verdict) }
     ensures given { OnOk result ((next : ℕ) (c : Closing) → IsOpenReading bank.old bindings.old next c → (levels : ℕ → ℕ) → (n : ℕ) (p : Equation) → IsSeenPair bank.old c level one.now other.now p → IsKnownPair levels next p → (r : Ruled) → rule n next p ≡ Some r →
         IsGivenAs levels next c bindings.old bank.new bindings.new next todo.old.items todo.new.items r.verdict) }
@@ -494,6 +502,7 @@ fn take_seen(
     ensures delayed { IfOk result (IsVerdictIn (length bank.new.terms)) }
     ensures more { next.old ≤ next.new }
     ensures grown { Grows bindings.old bindings.new }
+    ensures fewer { OnOk result (units.new ≤ units.old) }
     ensures judged { IfOk result (λ v. (c : Closing) → IsReading bank.old bindings.old c → IsShut c → (n : ℕ) (p : Equation) → IsSeenPair bank.old c level one.now other.now p → (r : Ruled) → rule n next.old p ≡ Some r →
         IsTaken v units.old units.new r) }
     ensures taken { IfOk result (λ v. (c : Closing) → IsOpenReading bank.old bindings.old next.old c → (levels : ℕ → ℕ) → (n : ℕ) (p : Equation) → IsSeenPair bank.old c level one.now other.now p → IsKnownPair levels next.old p → (r : Ruled) → rule n next.old p ≡ Some r →
@@ -532,6 +541,7 @@ pub(crate) fn take(
     ensures delayed { IfOk result (IsVerdictIn (length bank.new.terms)) }
     ensures more { next.old ≤ next.new }
     ensures grown { Grows bindings.old bindings.new }
+    ensures fewer { OnOk result (units.new ≤ units.old) }
     ensures judged { IfOk result (λ v. (c : Closing) → IsReading bank.old bindings.old c → IsShut c → (p : Equation) → IsPairFor bank.old c pair p → (n : ℕ) (r : Ruled) → rule n next.old p ≡ Some r → IsTaken v units.old units.new r) }
     ensures taken { IfOk result (λ v. (c : Closing) → IsOpenReading bank.old bindings.old next.old c → (levels : ℕ → ℕ) → (p : Equation) → IsPairFor bank.old c pair p → IsKnownPair levels next.old p → (n : ℕ) (r : Ruled) → rule n next.old p ≡ Some r →
         IsTakenAs v levels next.old c bindings.old bank.new bindings.new next.new todo.old.items todo.new.items p r.verdict) }

@@ -1,11 +1,12 @@
 // The scan of the other side, depth first and left to right. Each node is a unit; a pattern with its arguments is one node, and an
 // abstraction that is opened is none.
-ghost use Rattle.std.specs.Prelude.{◌≡◌, ◌∷◌, ◌++◌, ◌||◌, ◌<◌, ℕ, suc, nat_lt, length, not, reverse, true, false, Some, All, IfOk, OnOk, IfErr};
+ghost use Rattle.std.specs.Prelude.{◌≡◌, ◌∷◌, ◌++◌, ◌||◌, ◌<◌, ◌≤◌, ℕ, suc, nat_lt, length, not, reverse, true, false, Some, All, IfOk, OnOk, IfErr};
 ghost use Rattle.lp_term.specs.Nodes.{Extends, tree};
 ghost use Rattle.lp_model.specs.Pair.{Closing};
 ghost use Rattle.lp_model.specs.Scan.{Scanned as Outcome, is_side, allows_head, scan, scanned_pattern};
 ghost use Rattle.lp_pattern.specs.declared.fault.PatternRefusal.TheVariants.{Fails};
 ghost use Rattle.lp_pattern.specs.declared.look.Head.TheVariants.{Abstraction, Rigid, Variable};
+ghost use Rattle.lp_pattern.specs.inner.Falling.{walk_left, depth_on_top};
 ghost use Rattle.lp_pattern.specs.Pruning.{visit_at};
 ghost use Rattle.lp_pattern.specs.Reading.{side_of};
 ghost use Rattle.lp_pattern.specs.Scanning.{Adds, IsBroken, visits};
@@ -17,7 +18,8 @@ ghost use Rattle.lp_pattern.specs.Visiting.{IsVisitOf, IsRestOf, IsScanned, IsSt
 use crate::bindings::Bindings;
 use crate::fault::PatternRefusal;
 use crate::look::{CONTRACTIONS, Head, Looked, look};
-use crate::patterns::{Arguments, Opened, pattern_of};
+use crate::opened::Opened;
+use crate::patterns::{Arguments, pattern_of};
 use crate::side::Side;
 use crate::units::{spend, spend_many};
 use lp_base::Memory;
@@ -59,6 +61,7 @@ impl Visit {
         ensures term { IfOk result (λ v. v.term ≡ body) }
         ensures level { IfOk result (λ v. v.opened.level ≡ self.opened.level) }
         ensures depth { IfOk result (λ v. v.opened.depth ≡ suc self.opened.depth) }
+        ensures few { OnOk result (self.opened.depth < 4611686018427387904) }
         ensures inside { IfOk result (λ v. v.is_inside ≡ self.is_inside) }
     {
         let opened = self.opened.one_more()?;
@@ -122,6 +125,8 @@ fn visit_rigid(
     requires looked { IsLooked bank.now bindings.now looked.now }
     requires left { All (IsVisitOf (length bank.now.terms) side.now.pair) left.old.items }
     ensures left { OnOk result (All (IsVisitOf (length bank.now.terms) side.now.pair) left.new.items) }
+    ensures fewer { OnOk result (units.new ≤ units.old) }
+    ensures falls { OnOk result (walk_left units.new (depth_on_top left.new.items) < walk_left units.old visit.opened.depth) }
     ensures scanned { OnOk result ((c : Closing) → IsReading bank.now bindings.now c → IsShut c → (m n : ℕ) → IsRestOf (side_of side.now) units.old units.new found.old found.new
         (scan_parts m n (side_of side.now) (part_at bank.now c visit looked.now.whole ∷ parts_of bank.now c left.old.items))
         (scan_parts m n (side_of side.now) (parts_of bank.now c left.new.items))) }
@@ -204,6 +209,8 @@ fn visit_variable(
     requires left { All (IsVisitOf (length bank.old.terms) side.now.pair) left.old.items }
     ensures kept { Extends bank.old bank.new }
     ensures left { OnOk result (All (IsVisitOf (length bank.new.terms) side.now.pair) left.new.items) }
+    ensures fewer { OnOk result (units.new ≤ units.old) }
+    ensures falls { OnOk result (walk_left units.new (depth_on_top left.new.items) < walk_left units.old visit.opened.depth) }
     ensures scanned { OnOk result ((c : Closing) → IsReading bank.old bindings.now c → IsShut c → (m n : ℕ) → IsRestOf (side_of side.now) units.old units.new found.old found.new
         (scan_parts m n (side_of side.now) (part_at bank.old c visit looked.now.whole ∷ parts_of bank.old c left.old.items))
         (scan_parts m n (side_of side.now) (parts_of bank.new c left.new.items))) }
@@ -238,6 +245,7 @@ fn visit_body(
     requires looked { IsLooked bank.now bindings.now looked.now }
     requires left { All (IsVisitOf (length bank.now.terms) side.now.pair) left.old.items }
     ensures left { OnOk result (All (IsVisitOf (length bank.now.terms) side.now.pair) left.new.items) }
+    ensures falls { OnOk result (walk_left units.now (depth_on_top left.new.items) < walk_left units.now visit.opened.depth) }
     ensures scanned { OnOk result ((c : Closing) → IsReading bank.now bindings.now c → IsShut c → (m n : ℕ) → IsRestOf (side_of side.now) units.now units.now found.now found.now
         (scan_parts m n (side_of side.now) (part_at bank.now c visit looked.now.whole ∷ parts_of bank.now c left.old.items))
         (scan_parts m n (side_of side.now) (parts_of bank.now c left.new.items))) }
@@ -266,6 +274,8 @@ fn visit_seen(
     requires left { All (IsVisitOf (length bank.old.terms) side.now.pair) left.old.items }
     ensures kept { Extends bank.old bank.new }
     ensures left { OnOk result (All (IsVisitOf (length bank.new.terms) side.now.pair) left.new.items) }
+    ensures fewer { OnOk result (units.new ≤ units.old) }
+    ensures falls { OnOk result (walk_left units.new (depth_on_top left.new.items) < walk_left units.old visit.opened.depth) }
     ensures scanned { OnOk result ((c : Closing) → IsReading bank.old bindings.now c → IsShut c → (m n : ℕ) → IsRestOf (side_of side.now) units.old units.new found.old found.new
         (scan_parts m n (side_of side.now) (part_at bank.old c visit looked.now.whole ∷ parts_of bank.old c left.old.items))
         (scan_parts m n (side_of side.now) (parts_of bank.new c left.new.items))) }
@@ -299,6 +309,8 @@ fn visit_part(
     requires left { All (IsVisitOf (length bank.old.terms) side.now.pair) left.old.items }
     ensures kept { Extends bank.old bank.new }
     ensures left { OnOk result (All (IsVisitOf (length bank.new.terms) side.now.pair) left.new.items) }
+    ensures fewer { OnOk result (units.new ≤ units.old) }
+    ensures falls { OnOk result (walk_left units.new (depth_on_top left.new.items) < walk_left units.old visit.opened.depth) }
     ensures scanned { OnOk result ((c : Closing) → IsReading bank.old bindings.now c → IsShut c → (m n : ℕ) → IsRestOf (side_of side.now) units.old units.new found.old found.new
         (scan_parts m n (side_of side.now) (part_of bank.old c visit ∷ parts_of bank.old c left.old.items))
         (scan_parts m n (side_of side.now) (parts_of bank.new c left.new.items))) }
@@ -326,6 +338,7 @@ pub(crate) fn scan(
 ) -> Result<Scanned, PatternRefusal>
     requires term { term.0 < length bank.old.terms }
     ensures kept { Extends bank.old bank.new }
+    ensures fewer { OnOk result (units.new ≤ units.old) }
     ensures scanned { IfOk result (λ found. (c : Closing) → IsReading bank.old bindings.now c → IsShut c → (n : ℕ) → (r : Outcome) → scan n (side_of side.now) false side.now.pair (under bank.old c term) ≡ Some r →
         IsScanned (side_of side.now) units.old units.new found r) }
     ensures stopped { IfErr result (λ e. (c : Closing) → IsReading bank.old bindings.now c → IsShut c → (n : ℕ) → IsStopped n e units.old (scan n (side_of side.now) false side.now.pair (under bank.old c term))) }
@@ -340,7 +353,7 @@ pub(crate) fn scan(
         opened: side.closed(),
         is_inside: false,
     })?;
-    'parts: for _ in 0..u64::MAX {
+    'parts: loop {
         let Some(visit) = left.pop() else {
             return Ok(found);
         };
@@ -348,5 +361,4 @@ pub(crate) fn scan(
             alloc, bank, bindings, side, visit, &mut left, &mut found, units,
         )?;
     }
-    Err(PatternRefusal::Memory)
 }

@@ -19,7 +19,8 @@ ghost use Rattle.lp_pattern.specs.Under.{IsReading, under};
 use crate::bindings::Bindings;
 use crate::fault::PatternRefusal;
 use crate::look::{CONTRACTIONS, Head, Looked, look};
-use crate::patterns::{Opened, pattern_of};
+use crate::opened::Opened;
+use crate::patterns::pattern_of;
 use crate::side::Side;
 use lp_base::Memory;
 use lp_term::{
@@ -54,19 +55,17 @@ struct Work {
 }
 
 // The index of the abstraction that stands for an eigenconstant: one that is open, or one that the side makes.
-fn index_of(side: &Side, opened: Opened, eigen: u64) -> Result<Option<u64>, Memory>
-    ensures { IfOk result (λ o. o ≡ index_in side.now.eigens.items opened.level opened.depth eigen) }
+fn index_of(side: &Side, opened: Opened, eigen: u64) -> Option<u64>
+    ensures { result ≡ index_in side.now.eigens.items opened.level opened.depth eigen }
 {
     if let Some(index) = opened.index(eigen) {
-        return Ok(Some(index));
+        return Some(index);
     }
     let Some(out) = side.abstraction_of(eigen) else {
-        return Ok(None);
+        return None;
     };
-    if out > u64::MAX - opened.depth {
-        return Err(Memory);
-    }
-    Ok(Some(opened.depth + out))
+    let index = opened.depth + out;
+    Some(index)
 }
 
 fn is_at(index: Option<u64>, place: u64) -> bool
@@ -105,7 +104,7 @@ fn put_stand_in(
     ensures within { IfOk result (λ id. id.0 < length bank.new.terms) }
     ensures tree { IfOk result (λ id. tree bank.new id.0 ≡ eigen_or eigen (index_in side.now.eigens.items opened.level opened.depth eigen)) }
 {
-    let index = index_of(side, opened, eigen)?;
+    let index = index_of(side, opened, eigen);
     if stands(bank, old, index, eigen) {
         return Ok(old);
     }

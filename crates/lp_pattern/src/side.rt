@@ -5,7 +5,7 @@ ghost use Rattle.lp_model.specs.Scan.{is_side, allows, allow};
 ghost use Rattle.lp_pattern.specs.Reading.{side_of};
 ghost use Rattle.lp_pattern.specs.Settling.{side_index};
 
-use crate::patterns::Opened;
+use crate::opened::Opened;
 
 // A variable on distinct eigenconstants above its level, in a pair of a level.
 #[derive(Drop)]

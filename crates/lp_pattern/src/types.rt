@@ -1,5 +1,5 @@
 // Type equations, and the comparison of types, under bindings.
-ghost use Rattle.std.specs.Prelude.{◌≡◌, ◌<◌, ◌++◌, ℕ, [], Some, length, reverse, true, All, IfOk, OnOk, IfErr};
+ghost use Rattle.std.specs.Prelude.{◌≡◌, ◌<◌, ◌≤◌, ◌++◌, ℕ, [], Some, length, reverse, true, All, IfOk, OnOk, IfErr};
 ghost use Rattle.std.specs.Prelude.{nat_eq};
 ghost use Rattle.std.specs.List.{IsDistinct};
 ghost use Rattle.std.specs.Map.{keys_of};
@@ -79,6 +79,7 @@ pub(crate) fn solve_types(
     ensures kept { Extends bank.old bank.new }
     ensures grown { Grows bindings.old bindings.new }
     ensures terms { bindings.new.terms ≡ bindings.old.terms }
+    ensures fewer { OnOk result (units.new ≤ units.old) }
     ensures solved { OnOk result ((θ : ℕ → Ty) → AreTypes bank.old bindings.old θ → (n : ℕ) (o : TypeOutcome) → solve_types n (type_pairs_of bank.old θ pairs.now) [] 0 ≡ Some o → IsSolvedIn units.old units.new o) }
     ensures types { OnOk result ((θ : ℕ → Ty) → AreTypes bank.old bindings.old θ → IsStill θ → (n : ℕ) (o : TypeOutcome) → solve_types n (type_pairs_of bank.old θ pairs.now) [] 0 ≡ Some o → AreSolved bindings.old bank.new bindings.new θ units.old units.new o) }
     ensures behind { OnOk result ((c : Closing) → IsReading bank.old bindings.old c → IsShut c → IsStill c.types → (n : ℕ) (o : TypeOutcome) → solve_types n (type_pairs_of bank.old c.types pairs.now) [] 0 ≡ Some o → IsReadBehind bindings.old bank.new bindings.new c o) }
@@ -181,6 +182,7 @@ pub(crate) fn are_same_types(
     pairs: &[(TypeId, TypeId)],
     units: &mut u64,
 ) -> Result<bool, PatternRefusal>
+    ensures fewer { OnOk result (units.new ≤ units.old) }
     ensures compared { IfOk result (λ same. (θ : ℕ → Ty) → AreTypes bank.now bindings.now θ → (n : ℕ) → IsComparedTo same units.old units.new (compare_types n (type_pairs_of bank.now θ pairs.now))) }
     ensures spent { IfErr result (λ r. (θ : ℕ → Ty) → AreTypes bank.now bindings.now θ → (n : ℕ) → IsPassed r units.old (compare_types n (type_pairs_of bank.now θ pairs.now))) }
 {

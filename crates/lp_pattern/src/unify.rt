@@ -1,5 +1,5 @@
 // The unification of pairs.
-ghost use Rattle.std.specs.Prelude.{◌≡◌, ◌≤◌, ◌++◌, ◌||◌, ℕ, Bool, List, [], length, map, reverse, true, Some, All, IfOk, OnOk, IfErr};
+ghost use Rattle.std.specs.Prelude.{◌≡◌, ◌≤◌, ◌<◌, ◌++◌, ◌||◌, ℕ, Bool, List, [], length, map, reverse, true, Some, All, IfOk, OnOk, IfErr};
 ghost use Rattle.lp_calculus.specs.Types.{Ty, var};
 ghost use Rattle.lp_term.specs.Nodes.{Extends};
 ghost use Rattle.lp_model.specs.Pair.{Closing, Pair as Equation};
@@ -63,12 +63,14 @@ fn take_all(
     ensures more { next.old ≤ next.new }
     ensures grown { Grows bindings.old bindings.new }
     ensures emptied { OnOk result (todo.new.items ≡ []) }
+    ensures fewer { OnOk result (units.new ≤ units.old) }
+    ensures bound { IfOk result (λ is_bound. is_bound ≡ true → units.new < units.old) }
     ensures taken { IfOk result (λ is_bound. (limit : ℕ) (o : Began) (n : ℕ) (u : Unified) (bound : Bool) → LeadsTo limit o n u bank.old bindings.old next.old units.old (reverse todo.old.items) waiting.old.items bound →
         LeadsTo limit o n u bank.new bindings.new next.new units.new [] waiting.new.items (bound || is_bound)) }
     ensures refused { IfErr result (λ e. (limit : ℕ) (o : Began) (n : ℕ) (u : Unified) (bound : Bool) → LeadsTo limit o n u bank.old bindings.old next.old units.old (reverse todo.old.items) waiting.old.items bound → IsRefusedAs e n u) }
 {
     let before = bindings.mark();
-    'pairs: for _ in 0..u64::MAX {
+    'pairs: loop {
         let Some(pair) = todo.pop() else {
             return Ok(bindings.mark() != before);
         };
@@ -78,7 +80,6 @@ fn take_all(
             Verdict::Delayed(pair) => waiting.push(pair)?,
         }
     }
-    Err(PatternRefusal::Memory)
 }
 
 // Unifies where all types and terms are in the bank.
@@ -111,7 +112,7 @@ fn solve_inside(
     let before = bindings.mark();
     solve_types(alloc, bank, bindings, types, &mut units)?;
     let mut has_types = bindings.mark() != before;
-    'rounds: for _ in 0..u64::MAX {
+    'rounds: loop {
         let is_bound = take_all(
             alloc,
             bank,
@@ -128,7 +129,6 @@ fn solve_inside(
         push_pairs(waiting.as_slice(), &mut todo)?;
         waiting.clear();
     }
-    Err(PatternRefusal::Memory)
 }
 
 /// Unifies under bindings and adds to them: first the type equations, in order, then the pairs. The delayed pairs, oldest first, are

@@ -1,16 +1,32 @@
 -- What is left of a copy falls: the parts of a type have fewer nodes than it.
 use Rattle.std.proofs.Common.{◌≡◌, ℕ, zero, suc, ◌+◌, ◌*◌, ◌<◌, ◌≤◌, List, [], ◌∷◌, ◌++◌, length, map, reverse, get_or, Option, Some, Bool, true, false, refl, sym, ap, subst, ◌∙◌, arith}
-use Rattle.std.specs.Prelude.{All, nat_eq, if◌then◌else◌}
-use Rattle.std.proofs.lemmas.Bool.{eqb-true}
+use Rattle.std.specs.Prelude.{All, nat_eq, ltb, if◌then◌else◌}
+use Rattle.std.proofs.lemmas.Bool.{eqb-true, ltb-true, ltb-false}
 use Rattle.std.proofs.lemmas.List.{reverse-append}
 use Rattle.std.proofs.lemmas.List.Elements.{All-head, All-tail}
 use Rattle.lp_calculus.specs.Types.{Ty, var, param, con, arrow, tys, instance}
-use Rattle.lp_term.specs.Node.{TypeShape, con_node, arrow_node, TypeBelow}
-use Rattle.lp_term.specs.Nodes.{Nodes, Extends, type_tree, type_node_tree}
+use Rattle.lp_term.specs.Node.{TypeShape, var_node, con_node, arrow_node, TypeBelow}
+use Rattle.lp_term.specs.Nodes.{Nodes, Extends, type_at, type_tree, type_node_tree}
 use Rattle.lp_term.specs.declared.node.TypeId.{TypeId}
+use Rattle.lp_term.proofs.Trees.{type_at-past}
 use Rattle.lp_sig.specs.Copying.{type_size, type_sizes, total, cost, left, InRange, AreInRange, picked, filled}
 use Rattle.lp_sig.specs.declared.interned.Task.{Task}
 use Rattle.lp_sig.specs.declared.interned.Task.TheVariants.{Visit, Build}
+
+-- a node with parts stands in the bank
+pub con_inside : (b : Nodes) (id k : ℕ) (ids : List ℕ) → con_node k ids ≡ type_at b id → id < length b.types
+con_inside b id k ids e = by (ltb id (length b.types)) refl
+  where
+    by : (t : Bool) → ltb id (length b.types) ≡ t → id < length b.types
+    by true h = ltb-true id (length b.types) h
+    by false h = let z : con_node k ids ≡ var_node 0 = e ∙ type_at-past b id (ltb-false id (length b.types) h) in absurd (cc)
+
+pub arrow_inside : (b : Nodes) (id f t : ℕ) → arrow_node f t ≡ type_at b id → id < length b.types
+arrow_inside b id f t e = by (ltb id (length b.types)) refl
+  where
+    by : (s : Bool) → ltb id (length b.types) ≡ s → id < length b.types
+    by true h = ltb-true id (length b.types) h
+    by false h = let z : arrow_node f t ≡ var_node 0 = e ∙ type_at-past b id (ltb-false id (length b.types) h) in absurd (cc)
 
 pub some_nodes : (t : Ty) → 0 < type_size t
 some_nodes (var i) = omega arith

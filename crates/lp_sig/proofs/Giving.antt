@@ -1,13 +1,12 @@
 -- What signatures give, as tables of trees: the bodies of abbreviations, and the types of constants.
-use Rattle.std.proofs.Common.{◌≡◌, ℕ, ◌<◌, List, [], ◌∷◌, ◌++◌, length, Bool, true, false, Some, None, refl, sym, ap, subst, ◌∙◌, arith, cond}
+use Rattle.std.proofs.Common.{◌≡◌, ℕ, ◌<◌, List, [], ◌∷◌, length, Bool, true, false, Some, refl, sym, ap, subst, ◌∙◌, arith, cond}
 use Rattle.std.specs.Str.{bytes_eq}
 use Rattle.std.proofs.lemmas.Option.{same_Some}
-use Rattle.lp_calculus.specs.Types.{Ty}
 use Rattle.lp_term.specs.Nodes.{Nodes, Extends, type_tree}
 use Rattle.lp_syntax.specs.declared.text.Declaration.{Declaration}
 use Rattle.std.specs.Prelude.{Option}
 use Rattle.lp_sig.specs.AsWritten.{as_trees}
-use Rattle.lp_sig.specs.Differing.{number_here, numbered_by, trees_here, IsKnownType, of_signatures}
+use Rattle.lp_sig.specs.Differing.{number_here, numbered_by, trees_here, of_signatures}
 use Rattle.lp_sig.specs.Holding.{KnowsBodies}
 use Rattle.lp_sig.specs.Named.{NamedTy}
 use Rattle.lp_sig.specs.Rows.{Row, found}

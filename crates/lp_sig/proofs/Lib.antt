@@ -1,6 +1,7 @@
 pub mod Finding
 pub mod Blame
 pub mod Order
+pub mod Steps
 pub mod Circles
 pub mod UsesFirst
 pub mod UsesSettled

@@ -1,6 +1,5 @@
 -- The kinds of a signature that goes with those before it are kinds, with their counts of arguments, where all is said.
 use Rattle.std.proofs.Common.{◌≡◌, ℕ, ◌+◌, ◌<◌, ◌∙◌, List, [], ◌∷◌, ◌++◌, length, take, drop, get_or, sym, ap, subst, append_assoc}
-use Rattle.std.specs.Prelude.{All}
 use Rattle.std.proofs.lemmas.List.{take-append-drop}
 use Rattle.lp_sig.specs.Rows.{Row}
 use Rattle.lp_sig.specs.Said.{Said, a_kind}

@@ -76,6 +76,15 @@ text_more ns (x ∷ xs) (y ∷ ys) (suc i) s t h is k at = let n : suc i + 1 ≡
     (λ n. ways_between ns (x ∷ xs) (take n (y ∷ ys))) n ∙ ap (λ z. ways_in ns x.items (accum_words y.lines.items) ∷ z)
     (text_more ns xs ys i s t (omega (arith, h)) is (omega (arith, k)) at)
 
+-- what is past the texts, or past the sources, adds nothing
+pub no_more : (ns : List (List ℕ)) (sources : List (Vec ℕ Global)) (texts : List SignatureText) (n : ℕ) → (n < length sources → n < length texts → ⊥) → ways_between ns sources (take n texts) ≡ ways_between ns sources texts
+no_more ns sources [] zero h = refl
+no_more ns sources [] (suc n) h = refl
+no_more ns [] (t ∷ ts) zero h = refl
+no_more ns [] (t ∷ ts) (suc n) h = refl
+no_more ns (s ∷ ss) (t ∷ ts) zero h = absurd (h (omega arith) (omega arith))
+no_more ns (s ∷ ss) (t ∷ ts) (suc n) h = ap (λ z. ways_in ns s.items (accum_words t.lines.items) ∷ z) (no_more ns ss ts n (λ l m. h (omega (arith, l)) (omega (arith, m))))
+
 -- the words of a signature, where its number is one of a text, and past the texts
 pub words_at : (all : List (Vec Way Global)) (i : ℕ) (v : Vec Way Global) → i < length all → v ≡ get_or all i v → ways_out (map (λ v. v.items) all) i ≡ v.items
 words_at [] i v h is = absurd (omega (arith, h))

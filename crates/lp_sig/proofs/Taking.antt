@@ -19,14 +19,15 @@ use Rattle.lp_syntax.specs.declared.text.Sentence.{Sentence}
 use Rattle.lp_syntax.specs.declared.text.Sentence.TheVariants.{Declares, Says}
 use Rattle.lp_syntax.specs.declared.text.RawTypeNode.{RawTypeNode}
 use Rattle.lp_syntax.specs.declared.text.RawTypeNode.TheVariants as node
-use Rattle.lp_sig.specs.Constants.{Written, written_in, IsSchemeOf, IsTyped, standard_tree}
-use Rattle.lp_sig.specs.Differing.{IsKnownType, of_language, of_signatures, of_text, HasNoNumber, IsMetAt, HasNameCause, IsOtherIf, IsOtherBodyIf}
+use Rattle.lp_sig.specs.Constants.{Written, written_in, IsSchemeOf, IsTyped, IsWrittenFault, standard_tree}
+use Rattle.lp_sig.specs.Constants as constants
+use Rattle.lp_sig.specs.Differing.{IsKnownType, of_language, of_signatures, of_text, IsMetAt, DiffersFrom, HasManyVariables, HasNameCause, HasTypeCause, IsOtherBodyIf}
 use Rattle.lp_sig.specs.Holding.{IsTree, HoldsBodies}
 use Rattle.lp_sig.specs.Knowing.{Knows}
 use Rattle.lp_sig.specs.Abbreviations.{Seen}
 use Rattle.lp_sig.specs.AsWritten.{typed_locals, typed_by, typed_in}
 use Rattle.lp_sig.specs.Limits.{IsRepeated}
-use Rattle.lp_sig.specs.ModuleFaults.{IsTypeFault, long_type, word_of_type, many_variables, IsLineFault, IsLineTaken, IsFaultAmong}
+use Rattle.lp_sig.specs.ModuleFaults.{IsTypeFault, long_type, word_of_type, many_variables, IsNewFault, other_type, no_number, IsNewLocal, IsFirstOf, IsLocalFault, is_exported, its_fault, IsLineFault, IsLineTaken, IsFaultAmong}
 use Rattle.lp_sig.specs.Modules.{declarations, local_names, constant_names_by, constant_names_in, first_names}
 use Rattle.lp_sig.specs.Pieces.{spelled, begins_variable}
 use Rattle.lp_sig.specs.Places.{place_of}
@@ -34,8 +35,8 @@ use Rattle.lp_sig.specs.Rows.{Row, found}
 use Rattle.lp_sig.specs.Said.{Said, each, names_in}
 use Rattle.lp_sig.specs.Standard.{standard_constants}
 use Rattle.lp_sig.specs.Types.{Definition}
-use Rattle.lp_sig.specs.Words.{IsFirstFault, counted, word_fault, fault_of_word, may_stand, by_meaning, meaning_of}
-use Rattle.lp_sig.specs.Worded.{HasWords, names_so_far, is_met_word, is_met}
+use Rattle.lp_sig.specs.Words.{IsLongType, IsFirstFault, counted, word_fault, fault_of_word, may_stand, by_meaning, meaning_of}
+use Rattle.lp_sig.specs.Worded.{HasWords, is_met_word, is_met}
 use Rattle.lp_sig.specs.inner.Taking.{IsKnownId, standard_id, constant_id, IsOtherId, AreOtherIds, IsInside, AddsNames, AreKnownTypes, IsTaking, Takes, TakesOn}
 use Rattle.lp_sig.specs.declared.bodies.Bodies.{Bodies}
 use Rattle.lp_sig.specs.declared.constants.Constant.{Constant}
@@ -58,6 +59,10 @@ use Rattle.lp_sig.proofs.Typing.{bodies_stay}
 pub err_with : {T E : Type 0} (r : Result T E) (P : E → Type 0) → ((e : E) → P e) → IfErr r P
 err_with (Ok x) P h = tt
 err_with (Err e) P h = h e
+
+pub err_both : {T E : Type 0} (r : Result T E) (P Q R : E → Type 0) → ((e : E) → P e → Q e → R e) → IfErr r P → IfErr r Q → IfErr r R
+err_both (Ok x) P Q R f p q = tt
+err_both (Err e) P Q R f p q = f e p q
 
 -- a fault of a word says of no name that it is declared otherwise
 abbrev IsOfWord : SigFault → Type 0
@@ -151,6 +156,45 @@ module _ (text : List ℕ) (words : List (List ℕ)) (names : List Spot) where
 
   pub told_cause : (said : List (Row Said)) (ty : RawType) (g f : SigFault) → (g ≡ fault.Memory) ⊎ IsTypeFault text said ty g → (f ≡ fault.Memory) ⊎ ((f ≡ fault.Limit limit.NameLength) ⊎ (f ≡ g)) → HasNameCause text words names f
   told_cause said ty g f h t = no_name_cause text words names f (λ s e. told_not_other text said ty g f s h t e) (λ e. told_not_full text said ty g f h t e)
+
+-- the causes that lie in a type: it has too many arguments or type variables
+module _ (text : List ℕ) (said : List (Row Said)) (defs : List (Row Definition)) (ty : RawType) where
+  long_if : (f : SigFault) → (f ≡ fault.Memory) ⊎ IsWrittenFault text said defs ty f → f ≡ fault.Limit limit.Arguments → IsLongType ty.nodes.items ty.root ⊎ HasManyVariables said defs (written_in text ty)
+  long_if f (inl m) e = let z : fault.Memory ≡ fault.Limit limit.Arguments = sym m ∙ e in absurd (cc)
+  long_if f (inr (constants.long_type m l)) e = inl l
+  long_if f (inr (constants.word_of_type l w)) e = absurd (subst IsOfWord e (of_word text said None w.node f w.is))
+  long_if f (inr (constants.many_variables m sound count t is l)) e = inr (record { count = count; tree = t; is = is; many = l })
+
+  module _ (given : List (Row Ty)) (rows : List (Row Written)) (names : List Spot) where
+    no_type_cause : (f : SigFault) → ((s : Spot) → f ≡ fault.Differ s → ⊥) → (f ≡ fault.Limit limit.Arguments → ⊥) → HasTypeCause text said defs given rows names ty f
+    no_type_cause f d l = record { differs = λ s e. absurd (d s e); long = λ e. absurd (l e) }
+
+    pub long_type_cause : (f : SigFault) → f ≡ fault.Limit limit.NameLength → HasTypeCause text said defs given rows names ty f
+    long_type_cause f m = no_type_cause f (λ s e. long_not_other f s m e) (λ e. let z : fault.Limit limit.NameLength ≡ fault.Limit limit.Arguments = sym m ∙ e in absurd (cc))
+
+    pub written_cause : (f : SigFault) → (f ≡ fault.Memory) ⊎ IsTypeFault text said ty f → (f ≡ fault.Memory) ⊎ IsWrittenFault text said defs ty f → HasTypeCause text said defs given rows names ty f
+    written_cause f h w = record { differs = λ s e. absurd (type_not_other text said ty f s h e); long = λ e. long_if f w e }
+
+    pub told_type_cause : (g f : SigFault) → (g ≡ fault.Memory) ⊎ IsTypeFault text said ty g → (g ≡ fault.Memory) ⊎ IsWrittenFault text said defs ty g → (f ≡ fault.Memory) ⊎ ((f ≡ fault.Limit limit.NameLength) ⊎ (f ≡ g)) → HasTypeCause text said defs given rows names ty f
+    told_type_cause g f h w (inl m) = no_type_cause f (λ s e. type_not_other text said ty f s (inl m) e) (λ e. let z : fault.Memory ≡ fault.Limit limit.Arguments = sym m ∙ e in absurd (cc))
+    told_type_cause g f h w (inr (inl m)) = long_type_cause f m
+    told_type_cause g f h w (inr (inr m)) = subst (HasTypeCause text said defs given rows names ty) (sym m) (written_cause g h w)
+
+-- a name is no cause of too many arguments
+pub new_not_long : (names : List Spot) (f : SigFault) → (f ≡ fault.Memory) ⊎ IsNewFault names f → f ≡ fault.Limit limit.Arguments → ⊥
+new_not_long names f (inl m) e = let z : fault.Memory ≡ fault.Limit limit.Arguments = sym m ∙ e in absurd (cc)
+new_not_long names f (inr (other_type s c m)) e = let z : fault.Differ s ≡ fault.Limit limit.Arguments = sym m ∙ e in absurd (cc)
+new_not_long names f (inr (no_number m)) e = let z : fault.Limit limit.Names ≡ fault.Limit limit.Arguments = sym m ∙ e in absurd (cc)
+
+pub local_not_long : (exports : List ℕ → Bool) (text : List ℕ) (Q : Spot → Type 0) (names : List Spot) (e : ModuleSigFault) (f : SigFault) →
+    (e ≡ wrong.Sig fault.Memory) ⊎ IsFirstOf (IsLocalFault exports text (IsNewLocal text)) Q names e → e ≡ wrong.Sig f → f ≡ fault.Limit limit.Arguments → ⊥
+local_not_long exports text Q names e f (inl m) is g = new_not_long names f (inl (sym (sig_is fault.Memory f (sym m ∙ is)))) g
+local_not_long exports text Q names e f (inr r) is g = by r.refused
+  where
+    by : IsLocalFault exports text (IsNewLocal text) r.name e → ⊥
+    by (is_exported x m) = let z : wrong.Exported r.name ≡ wrong.Sig f = sym m ∙ is in absurd (cc)
+    by (its_fault x (inl (m, l))) = let h : fault.Limit limit.NameLength ≡ f = sig_is (fault.Limit limit.NameLength) f (sym m ∙ is) in let z : fault.Limit limit.NameLength ≡ fault.Limit limit.Arguments = h ∙ g in absurd (cc)
+    by (its_fault x (inr (short, n))) = new_not_long (r.name ∷ []) n.0 (inr n.1) (sig_is n.0 f (sym n.2 ∙ is) ∙ g)
 
 -- what a name is known as
 pub standard_known : (b : Nodes) (c : Constants) (name : List ℕ) (n : ℕ) (first t : TypeId) → Some n ≡ found name standard_constants → IsTree b (λ T. T ≡ standard_tree n) first → known.Typed first ≡ known.Typed t → IsKnownId b c name t
@@ -310,23 +354,25 @@ known_here b now c said defs given rows name t x all (constant_id k has is d e s
     )
 
 pub other_written : (b mid now : Nodes) (c : Constants) (said : List (Row Said)) (defs : List (Row Definition)) (given : List (Row Ty)) (rows : List (Row Written)) (text : List ℕ) (names : List Spot) (ty : RawType) (declared : Option DeclaredType) (f : SigFault) →
-    Extends b now → Extends mid now → AreKnownTypes b c said defs given rows → IfSome declared (IsTyped mid said defs (written_in text ty)) → AreOtherIds text now c names declared f → IsOtherIf text said defs given rows names ty f
-other_written b mid now c said defs given rows text names ty declared f x y all typed h z is =
-    let (has, o) = h z is in
-    let t : IsTyped mid said defs (written_in text ty) o.new = subst (λ o. IfSome o (IsTyped mid said defs (written_in text ty))) o.some typed in
-    let k = known_here b now c said defs given rows (spelled text z) o.known x all o.is in
-    let l = t.inside in
-    let m = y.more_types in (
-      has,
-      record {
-        known = type_tree now o.known.0;
-        before = k.1;
-        here = type_tree now o.new.scheme.0;
-        count = o.new.type_vars;
-        is = subst (IsSchemeOf said defs (written_in text ty) o.new.type_vars) (sym (y.same_types o.new.scheme.0 l)) t.scheme;
-        differ = o.distinct k.0 (omega (arith, l, m));
-      },
-    )
+    Extends b now → Extends mid now → AreKnownTypes b c said defs given rows → IfSome declared (IsTyped mid said defs (written_in text ty)) → AreOtherIds text now c names declared f → (f ≡ fault.Limit limit.Arguments → ⊥) → HasTypeCause text said defs given rows names ty f
+other_written b mid now c said defs given rows text names ty declared f x y all typed h never = record { differs = λ z is. by z (h z is); long = λ e. absurd (never e) }
+  where
+    by : (z : Spot) → Contains names z × IsOtherId now c (spelled text z) declared → Contains names z × DiffersFrom said defs given rows (spelled text z) (written_in text ty)
+    by z (has, o) =
+        let t : IsTyped mid said defs (written_in text ty) o.new = subst (λ o. IfSome o (IsTyped mid said defs (written_in text ty))) o.some typed in
+        let k = known_here b now c said defs given rows (spelled text z) o.known x all o.is in
+        let l = t.inside in
+        let m = y.more_types in (
+          has,
+          record {
+            known = type_tree now o.known.0;
+            before = k.1;
+            here = type_tree now o.new.scheme.0;
+            count = o.new.type_vars;
+            is = subst (IsSchemeOf said defs (written_in text ty) o.new.type_vars) (sym (y.same_types o.new.scheme.0 l)) t.scheme;
+            differ = o.distinct k.0 (omega (arith, l, m));
+          },
+        )
 
 pub typed_inside : (mid : Nodes) (said : List (Row Said)) (defs : List (Row Definition)) (w : Written) (declared : Option DeclaredType) → IfSome declared (IsTyped mid said defs w) → IsInside mid declared
 typed_inside mid said defs w declared typed d is = (subst (λ o. IfSome o (IsTyped mid said defs w)) is typed).inside

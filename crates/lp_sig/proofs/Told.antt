@@ -1,12 +1,8 @@
 -- What the sights of signatures tell of the words of a text.
-use Rattle.std.specs.Global.{Global}
-use Rattle.std.proofs.Common.{◌≡◌, ℕ, zero, suc, ◌+◌, ◌<◌, ◌≤◌, List, Bool, [], ◌∷◌, ◌++◌, length, get_or, take, Option, Some, None, Vec, Bor, refl, sym, ap, subst, ◌∙◌, arith, inl, inr, true≢false, append_assoc}
+use Rattle.std.proofs.Common.{◌≡◌, ℕ, zero, suc, ◌+◌, ◌<◌, ◌≤◌, List, Bool, [], ◌∷◌, ◌++◌, length, get_or, take, Option, Some, None, refl, sym, ap, subst, ◌∙◌, arith, inl, inr, true≢false, append_assoc}
 use Rattle.std.specs.Prelude.{◌⊎◌, IfSome, is_some, slice_get, Contains}
-use Rattle.std.specs.Str.{bytes_eq}
-use Rattle.std.specs.Map.{lookup}
 use Rattle.std.proofs.lemmas.List.{take_more}
 use Rattle.std.proofs.lemmas.Option.{same_Some, slice_get-get_or}
-use Rattle.indexmap.specs.IndexMap.{IndexMap}
 use Rattle.lp_base.specs.declared.limits.TheConstants.{END_OF_NUMBERS}
 use Rattle.lp_base.specs.declared.place.Spot.{Spot}
 use Rattle.lp_sig.specs.Pieces.{spelled}
@@ -15,8 +11,8 @@ use Rattle.lp_sig.specs.Modules.{first_names, of_each, said_of, constants_of}
 use Rattle.lp_sig.specs.AsWritten.{bodies_of}
 use Rattle.lp_sig.specs.Knowing.{Knows}
 use Rattle.lp_sig.specs.Worded.{HasWords}
-use Rattle.lp_sig.specs.Sights.{HasNumbers, IsSightOf}
-use Rattle.lp_sig.specs.ModuleFaults.{IsWordFault, otherwise, many, IsNamedBy, IsWordRefused, IsWordTaken}
+use Rattle.lp_sig.specs.Sights.{IsSightOf}
+use Rattle.lp_sig.specs.ModuleFaults.{IsWordFault, otherwise, many, IsWordRefused, IsWordTaken}
 use Rattle.lp_sig.specs.GoingTogether.{GoesWith, types_of}
 use Rattle.lp_sig.specs.Holding.{line_at}
 use Rattle.lp_sig.specs.inner.Telling.{SightTells, IsBlamed, IsRoom, AreTold, KnowsBefore, AreBodiesHere, AreTypedHere, IsTypedHere}

@@ -1,8 +1,8 @@
 -- What sights of abbreviations tell: their bodies here against those that their names are given first.
-use Rattle.std.proofs.Common.{◌≡◌, ℕ, zero, suc, ◌+◌, ◌<◌, List, [], ◌∷◌, ◌++◌, length, map, get_or, take, drop, Bool, true, false, true≢false, Option, Some, None, refl, sym, ap, subst, ◌∙◌, arith, inl, inr, append_assoc, append-nil}
+use Rattle.std.proofs.Common.{◌≡◌, ℕ, ◌+◌, ◌<◌, List, [], ◌∷◌, ◌++◌, length, map, get_or, take, drop, Bool, true, false, true≢false, Some, None, refl, sym, ap, subst, ◌∙◌, arith, inl, inr, append_assoc, append-nil}
 use Rattle.std.specs.Str.{bytes_eq}
 use Rattle.std.proofs.lemmas.Bool.{or_parts}
-use Rattle.std.specs.Prelude.{◌⊎◌, ◌||◌, not, if◌then◌else◌, slice_get, All}
+use Rattle.std.specs.Prelude.{◌⊎◌, ◌||◌, not, if◌then◌else◌}
 use Rattle.std.proofs.lemmas.List.{length-append, length-map, map-append, get_or_append_left, take-append-drop}
 use Rattle.std.proofs.lemmas.List.Elements.{All-push}
 use Rattle.std.proofs.lemmas.Option.{same_Some}
@@ -21,7 +21,7 @@ use Rattle.lp_sig.specs.Said.{Said, a_kind, an_abbreviation, is_among, names_in}
 use Rattle.lp_sig.specs.Standard.{standard_kinds}
 use Rattle.lp_sig.specs.Words.{standard_said, meaning_of}
 use Rattle.lp_sig.specs.GoingTogether.{IsSameAbbreviation, AbbreviationsGo, IsOtherAbbreviation}
-use Rattle.lp_sig.specs.inner.Telling.{first_sight, Tells, TellsNext, NeverMany, AbbreviationsTell, AbbreviationTells, IsAbbreviationOf, EachKind, IsTypeHere, IsMadeHere, AreTypesHere, FitsHere, IsBodyHere, AreBodiesHere, CanSeeBodies}
+use Rattle.lp_sig.specs.inner.Telling.{first_sight, TellsNext, NeverMany, AbbreviationsTell, AbbreviationTells, IsAbbreviationOf, EachKind, IsTypeHere, IsMadeHere, FitsHere, IsBodyHere, AreBodiesHere, CanSeeBodies}
 use Rattle.lp_sig.specs.declared.bodies.Body.{Body}
 use Rattle.lp_sig.specs.declared.entries.AbbreviationEntry.{AbbreviationEntry}
 use Rattle.lp_sig.specs.declared.entries.KindEntry.{KindEntry}
@@ -158,6 +158,9 @@ no_abbreviation_said said name c p means other = let z : a_kind c ≡ an_abbrevi
 
 pub kind_told : (said : List (Row Said)) (rows : List (Row NamedTy)) (name : List ℕ) (c p : ℕ) (t : NamedTy) → Some (a_kind c) ≡ meaning_of name said → AbbreviationTells said rows name p t Otherwise
 kind_told said rows name c p t means = λ q. no_abbreviation_said said name c p means q.0
+
+pub nothing_told : (said : List (Row Said)) (rows : List (Row NamedTy)) (name : List ℕ) (p : ℕ) (t : NamedTy) → None ≡ meaning_of name said → AbbreviationTells said rows name p t Otherwise
+nothing_told said rows name p t means = λ q. let z : None ≡ Some (an_abbreviation p) = means ∙ q.0 in absurd (cc)
 
 parameters_apart : (p q : ℕ) → an_abbreviation p ≡ an_abbreviation q → p ≡ q
 parameters_apart p q e = cc

@@ -1,9 +1,9 @@
 -- What sights of constants tell: their types here against those that their names have first.
-use Rattle.std.proofs.Common.{◌≡◌, ℕ, zero, suc, ◌+◌, ◌<◌, ◌≤◌, List, [], ◌∷◌, ◌++◌, length, map, get_or, take, drop, Bool, true, false, true≢false, Result, Ok, Err, Option, Some, None, refl, sym, ap, subst, ◌∙◌, arith, inl, inr, cond, append_assoc, append-nil}
-use Rattle.std.specs.Prelude.{◌⊎◌, ◌&&◌, ◌||◌, codes, is_some, if◌then◌else◌, nat_lt, slice_get, slice_index_or, Contains, All, IfOk, OnOk}
+use Rattle.std.proofs.Common.{◌≡◌, ℕ, zero, suc, ◌+◌, ◌<◌, ◌≤◌, List, [], ◌∷◌, ◌++◌, length, map, get_or, take, drop, Bool, true, false, true≢false, Some, None, refl, sym, ap, subst, ◌∙◌, arith, inl, inr, cond, append_assoc, append-nil}
+use Rattle.std.specs.Prelude.{◌⊎◌, ◌&&◌, ◌||◌, codes, is_some, if◌then◌else◌, nat_lt, slice_get, slice_index_or, Contains, All}
 use Rattle.std.specs.Str.{bytes_eq}
 use Rattle.std.proofs.lemmas.Bool.{ltb-true, or_parts}
-use Rattle.std.proofs.lemmas.List.{length-append, length-map, take_more, map-append, take-append-drop}
+use Rattle.std.proofs.lemmas.List.{length-append, length-map, map-append, take-append-drop}
 use Rattle.std.proofs.lemmas.List.Elements.{All-push, Contains-append_cases}
 use Rattle.std.proofs.lemmas.Option.{same_Some}
 use Rattle.std.proofs.lemmas.Slice.Eq.{bytes_eq-Decides}
@@ -18,15 +18,14 @@ use Rattle.lp_sig.specs.Said.{Said, is_among, names_in}
 use Rattle.lp_sig.specs.Standard.{standard_constants}
 use Rattle.lp_sig.specs.Constants.{standard_types, standard_tree}
 use Rattle.lp_sig.specs.Modules.{first_names}
-use Rattle.lp_sig.specs.Named.{NamedTy, NamedTys, named, all_named, named_in, kind_name, kind_names, IsWhole}
+use Rattle.lp_sig.specs.Named.{NamedTy, named, all_named, named_in, kind_name, kind_names, IsWhole}
 use Rattle.lp_sig.specs.Sighted.{PutsBehind}
-use Rattle.lp_sig.specs.Worded.{HasWords, is_met_word, names_so_far}
-use Rattle.lp_sig.specs.GoingTogether.{named_constant, named_standard, standard_typed, constant_count, entry_names, AreNumberedConstants, IsSameConstant, ConstantsGo, IsOtherConstant, HasNoConstantNumber}
+use Rattle.lp_sig.specs.Worded.{HasWords, is_met_word}
+use Rattle.lp_sig.specs.GoingTogether.{named_constant, standard_typed, constant_count, entry_names, AreNumberedConstants, IsSameConstant, ConstantsGo, IsOtherConstant, HasNoConstantNumber}
 use Rattle.lp_sig.specs.Differing.{number_here, numbered_by, all_numbered}
-use Rattle.lp_sig.specs.inner.Telling.{first_sight, Tells, TellsNext, ConstantsTell, ConstantTells, HasNumberHere, EachKind, AllKinds, IsTypeHere, IsMadeHere, AreTypesHere, FitsHere, IsTypedHere, AreTypedHere, IsRoomSight, IsTypeOfName, of_language, of_constant, CanSee, CanSeeAll}
+use Rattle.lp_sig.specs.inner.Telling.{first_sight, TellsNext, ConstantsTell, ConstantTells, HasNumberHere, EachKind, AllKinds, IsTypeHere, FitsHere, IsTypedHere, AreTypedHere, IsRoomSight, IsTypeOfName, of_language, of_constant, CanSee, CanSeeAll}
 use Rattle.lp_sig.specs.declared.constants.Constant.{Constant}
 use Rattle.lp_sig.specs.declared.constants.Constants.{Constants}
-use Rattle.lp_sig.specs.declared.constants.DeclaredType.{DeclaredType}
 use Rattle.lp_sig.specs.declared.entries.ConstantEntry.{ConstantEntry}
 use Rattle.lp_sig.specs.declared.see.Sight.{Sight}
 use Rattle.lp_sig.specs.declared.see.Sight.TheVariants.{Alike, Otherwise, TooMany}

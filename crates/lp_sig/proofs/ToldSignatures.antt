@@ -1,22 +1,20 @@
 -- What the sight of a signature tells, from those of its kinds, abbreviations and constants.
-use Rattle.std.proofs.Common.{◌≡◌, ℕ, zero, suc, ◌<◌, List, [], ◌∷◌, ◌++◌, length, map, get_or, Option, Some, refl, sym, ap, subst, ◌∙◌, arith, append_assoc, append-nil}
-use Rattle.std.specs.Prelude.{◌⊎◌, All}
+use Rattle.std.proofs.Common.{◌≡◌, ℕ, List, [], ◌∷◌, ◌++◌, map, get_or, Some, refl, sym, ap, subst, ◌∙◌, arith, append_assoc, append-nil}
+use Rattle.std.specs.Prelude.{All}
 use Rattle.std.proofs.lemmas.List.Elements.{All-pop}
 use Rattle.lp_term.specs.Nodes.{Nodes, Extends, type_tree}
 use Rattle.lp_term.specs.declared.node.TypeId.{TypeId}
-use Rattle.lp_sig.specs.AsWritten.{named_body, bodies_of, HasWholeBodies}
+use Rattle.lp_sig.specs.AsWritten.{HasWholeBodies}
 use Rattle.lp_sig.specs.Modules.{of_each, said_of, constants_of, kind_said, abbreviation_said}
-use Rattle.lp_sig.specs.Named.{NamedTy, named, named_in, kind_name, kind_names, IsWhole, IsOrdered}
+use Rattle.lp_sig.specs.Named.{NamedTy, named_in, kind_name, kind_names, IsOrdered}
 use Rattle.lp_sig.specs.Rows.{Row}
 use Rattle.lp_sig.specs.Said.{Said, names_in}
-use Rattle.lp_sig.specs.GoingTogether.{named_constant, types_of, said_with, bodies_with, types_with, KindsGo, AbbreviationsGo, ConstantsGo, AreOfTexts, GoesWith, IsOtherType, other_abbreviation, other_constant, IsOtherwise, other_kind, other_type, HasManyConstants, HasNoNumber, many_kinds, many_constants}
+use Rattle.lp_sig.specs.GoingTogether.{named_constant, types_of, said_with, bodies_with, types_with, KindsGo, AreOfTexts, other_abbreviation, other_constant, other_kind, other_type, many_kinds, many_constants}
 use Rattle.lp_sig.specs.inner.Telling.{first_sight, KindsTell, AbbreviationsTell, ConstantsTell, SightTells, EachKind, FitsHere, IsTypeHere, AreTypesHere, AreBodiesHere, AreTypedHere, CanSeeAll, CanSeeBodies}
 use Rattle.lp_sig.specs.Worded.{HasWords}
 use Rattle.lp_sig.specs.declared.bodies.Body.{Body}
 use Rattle.lp_sig.specs.declared.constants.Constants.{Constants}
-use Rattle.lp_sig.specs.declared.entries.AbbreviationEntry.{AbbreviationEntry}
 use Rattle.lp_sig.specs.declared.entries.ConstantEntry.{ConstantEntry}
-use Rattle.lp_sig.specs.declared.entries.KindEntry.{KindEntry}
 use Rattle.lp_sig.specs.declared.see.Sight.{Sight}
 use Rattle.lp_sig.specs.declared.see.Sight.TheVariants.{Alike, Otherwise, TooMany}
 use Rattle.lp_sig.specs.declared.signature.Signature.{Signature}

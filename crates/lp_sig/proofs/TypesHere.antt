@@ -1,10 +1,9 @@
 -- Types here with the numbers of their names: they stay while more is said, and where all kinds have numbers, types are the same as their names are.
-use Rattle.std.proofs.Common.{◌≡◌, ℕ, zero, suc, ◌+◌, ◌-◌, ◌<◌, List, [], ◌∷◌, ◌++◌, length, map, Bool, true, false, Option, Some, None, refl, sym, ap, subst, ◌∙◌, arith, inl, inr}
-use Rattle.std.specs.Prelude.{◌⊎◌, codes, if◌then◌else◌, nat_lt, slice_get, All}
+use Rattle.std.proofs.Common.{◌≡◌, ℕ, zero, suc, ◌-◌, ◌<◌, List, [], ◌∷◌, ◌++◌, length, map, Bool, true, false, Option, Some, None, refl, sym, ap, subst, ◌∙◌, arith, inl, inr}
+use Rattle.std.specs.Prelude.{◌⊎◌, codes, if◌then◌else◌, nat_lt, slice_get}
 use Rattle.std.proofs.lemmas.Bool.{ltb-true}
 use Rattle.std.proofs.lemmas.List.Elements.{All-head, All-tail}
 use Rattle.std.proofs.lemmas.Option.{same_Some}
-use Rattle.lp_base.specs.declared.limits.TheConstants.{END_OF_NUMBERS}
 use Rattle.lp_calculus.specs.Types.{Ty, Tys, var, param, con, arrow, no_types, types, tys}
 use Rattle.lp_term.specs.Node.{TypeShape, var_node, con_node, arrow_node}
 use Rattle.lp_term.specs.Nodes.{Nodes, Extends, type_tree, type_node_tree}
@@ -15,7 +14,6 @@ use Rattle.lp_sig.specs.Standard.{standard_kinds}
 use Rattle.lp_sig.specs.Words.{meaning_of}
 use Rattle.lp_sig.specs.Types.{kind_number_of}
 use Rattle.lp_sig.specs.Named.{NamedTy, NamedTys, named_var, named_param, named_con, named_arrow, no_named, more_named, named, all_named, kind_name, IsWhole, AreWhole}
-use Rattle.lp_sig.specs.Sighted.{said_kinds}
 use Rattle.lp_sig.specs.GoingTogether.{KindsGo, IsSameKind, IsNumbered}
 use Rattle.lp_sig.specs.Differing.{number_for, number_here, numbered_by, all_numbered}
 use Rattle.lp_sig.specs.inner.Telling.{IsNumberHere, of_kind, of_no_kind, HasNumberHere, EachKind, AllKinds, IsTypeHere, AreTypesHere, FitsHere}

@@ -1,6 +1,6 @@
--- Why a sentence of constants of a module's text is refused for its names: which constants are known before it, with which types, and when no number is left for a new one.
-use Rattle.std.specs.Prelude.{◌≡◌, ◌⊎◌, ◌+◌, ◌<◌, ◌≤◌, ℕ, List, [], ◌∷◌, ◌++◌, Option, Some, None, map, take, length, Contains, true, false, slice_index_or}
-use Rattle.lp_base.specs.declared.limits.TheConstants.{END_OF_NUMBERS}
+-- Why a sentence of constants of a module's text is refused for its names and its type: which constants are known before it, with which types, when no number is left for a new one, and when a type has too many variables.
+use Rattle.std.specs.Prelude.{◌≡◌, ◌⊎◌, ◌+◌, ◌<◌, ◌≤◌, ℕ, List, ◌++◌, Option, Some, None, map, take, length, Contains, true, false, slice_index_or}
+use Rattle.lp_base.specs.declared.limits.TheConstants.{END_OF_NUMBERS, MAX_ARGUMENTS}
 use Rattle.lp_base.specs.declared.limit.Limit.TheVariants as limit
 use Rattle.lp_base.specs.declared.place.Spot.{Spot}
 use Rattle.lp_calculus.specs.Types.{Ty, Tys, var, param, con, arrow, no_types, types}
@@ -15,7 +15,7 @@ use Rattle.lp_sig.specs.Rows.{Row, found}
 use Rattle.lp_sig.specs.Said.{Said, a_kind, an_abbreviation, names_in}
 use Rattle.lp_sig.specs.Standard.{standard_constants}
 use Rattle.lp_sig.specs.Types.{Definition, kind_number_of}
-use Rattle.lp_sig.specs.Words.{IsNameFault, meaning_of}
+use Rattle.lp_sig.specs.Words.{IsLongType, IsNameFault, meaning_of}
 use Rattle.lp_sig.specs.Worded.{is_met_word}
 use Rattle.lp_sig.specs.declared.fault.SigFault.{SigFault}
 use Rattle.lp_sig.specs.declared.fault.SigFault.TheVariants as fault
@@ -63,7 +63,7 @@ pub record DiffersFrom (said : List (Row Said)) (defs : List (Row Definition)) (
   pub differ : known ≡ here → ⊥
 
 -- the first of these names that is new behind so many known ones has no number: constants have those from 32 on
-pub record HasNoNumber (text : List ℕ) (words : List (List ℕ)) (names : List Spot) : Type 0 where
+pub record HasNewWithoutNumber (text : List ℕ) (words : List (List ℕ)) (names : List Spot) : Type 0 where
   pub k : ℕ
   pub name : Spot
   pub inside : k < length names
@@ -81,11 +81,19 @@ pub record IsMetAt (text : List ℕ) (words : List (List ℕ)) (names : List Spo
 -- why names are refused behind so many known ones: one that is declared otherwise is known, and where numbers are wanting none is left
 pub record HasNameCause (text : List ℕ) (words : List (List ℕ)) (names : List Spot) (f : SigFault) : Type 0 where
   pub differs : (s : Spot) → f ≡ fault.Differ s → IsMetAt text words names s
-  pub full : f ≡ fault.Limit limit.Names → HasNoNumber text words names
+  pub full : f ≡ fault.Limit limit.Names → HasNewWithoutNumber text words names
 
--- where one is declared otherwise, it is one of them, and known with another type
-abbrev pub IsOtherIf : List ℕ → List (Row Said) → List (Row Definition) → List (Row Ty) → List (Row Written) → List Spot → RawType → SigFault → Type 0
-IsOtherIf text said defs given rows names ty f = (s : Spot) → f ≡ fault.Differ s → Contains names s × DiffersFrom said defs given rows (spelled text s) (written_in text ty)
+-- a type has more than 255 type variables behind its abbreviations
+pub record HasManyVariables (said : List (Row Said)) (defs : List (Row Definition)) (w : Written) : Type 0 where
+  pub count : ℕ
+  pub tree : Ty
+  pub is : IsSchemeOf said defs w count tree
+  pub many : MAX_ARGUMENTS < count
+
+-- why such a sentence is refused by its type: a name that is declared otherwise is one of them, and known with another type, and where arguments are too many, the type has more than 255, or more than 255 type variables
+pub record HasTypeCause (text : List ℕ) (said : List (Row Said)) (defs : List (Row Definition)) (given : List (Row Ty)) (rows : List (Row Written)) (names : List Spot) (ty : RawType) (f : SigFault) : Type 0 where
+  pub differs : (s : Spot) → f ≡ fault.Differ s → Contains names s × DiffersFrom said defs given rows (spelled text s) (written_in text ty)
+  pub long : f ≡ fault.Limit limit.Arguments → IsLongType ty.nodes.items ty.root ⊎ HasManyVariables said defs (written_in text ty)
 
 -- where the name of an abbreviation is declared otherwise: it means something else, or a parameter of it stands twice, or the first body of the name is another one
 abbrev pub IsOtherBodyIf : List ℕ → List (Row Said) → List (Row Definition) → Spot → List Spot → RawType → SigFault → Type 0

@@ -9,7 +9,7 @@ use Rattle.lp_syntax.specs.declared.text.RawType.{RawType}
 use Rattle.lp_syntax.specs.declared.text.Sentence.{Sentence}
 use Rattle.lp_calculus.specs.Types.{Ty}
 use Rattle.lp_sig.specs.Constants.{Written}
-use Rattle.lp_sig.specs.Differing.{HasNameCause, IsOtherIf, IsOtherBodyIf, trees_here}
+use Rattle.lp_sig.specs.Differing.{HasNameCause, HasTypeCause, IsOtherBodyIf, trees_here}
 use Rattle.lp_sig.specs.Pieces.{spelled}
 use Rattle.lp_sig.specs.Rows.{Row}
 use Rattle.lp_sig.specs.Standard.{standard_kinds, standard_constants}
@@ -101,7 +101,7 @@ abbrev pub IsKnownFault : (List ℕ → Bool) → (Spot → ModuleSigFault) → 
 IsKnownFault exports told text known names e =
     IsFirstOf (IsLocalFault exports text (λ s e. (is_among (spelled text s) known ≡ false) × (e ≡ told s))) (IsLocal exports text (λ s. is_among (spelled text s) known ≡ true)) names e
 
--- a declared type: its length as written, then its words, then the number of its type variables behind its abbreviations
+-- a declared type: its length as written, then its words, then the number of its type variables behind its abbreviations (which is told by HasTypeCause, where bodies are those of texts)
 pub data IsTypeFault (text : List ℕ) (said : List (Row Said)) (ty : RawType) (e : SigFault) : Type 0 where
   long_type : e ≡ fault.Limit limit.Arguments → IsLongType ty.nodes.items ty.root → IsTypeFault text said ty e
   word_of_type : (IsLongType ty.nodes.items ty.root → ⊥) → IsFirstFault text said None ty.nodes.items e → IsTypeFault text said ty e
@@ -230,24 +230,25 @@ HasLineCause own text words (Accumulate ws) e = Unit {0}
 HasLineCause own text words (AccumSig ws) e = Unit {0}
 HasLineCause own text words (Fixities names f n) e = Unit {0}
 
-abbrev pub AreLocalsOtherIf : List ℕ → List (Row Said) → List (Row Definition) → List (Row Ty) → List (Row Written) → List Spot → Option RawType → ModuleSigFault → Type 0
-AreLocalsOtherIf text said defs given rows names None e = Unit {0}
-AreLocalsOtherIf text said defs given rows names (Some ty) e = (f : SigFault) → e ≡ wrong.Sig f → IsOtherIf text said defs given rows names ty f
+abbrev pub HaveLocalsTypeCause : List ℕ → List (Row Said) → List (Row Definition) → List (Row Ty) → List (Row Written) → List Spot → Option RawType → ModuleSigFault → Type 0
+HaveLocalsTypeCause text said defs given rows names None e = Unit {0}
+HaveLocalsTypeCause text said defs given rows names (Some ty) e = (f : SigFault) → e ≡ wrong.Sig f → HasTypeCause text said defs given rows names ty f
 
-abbrev pub IsLineOtherIf : Signature → List ℕ → List (Row Said) → List (Row Definition) → List (Row Ty) → List (Row Written) → Declaration → ModuleSigFault → Type 0
-IsLineOtherIf own text said defs given rows (Kinds names n) e = Unit {0}
-IsLineOtherIf own text said defs given rows (LocalKinds names count) e = Unit {0}
-IsLineOtherIf own text said defs given rows (Constants names ty) e = (f : SigFault) × (e ≡ blamed_by (exports_constant own) text f) × IsOtherIf text said defs given rows names.items ty f
-IsLineOtherIf own text said defs given rows (Locals names ty) e = AreLocalsOtherIf text said defs given rows names.items ty e
-IsLineOtherIf own text said defs given rows (Abbreviation name ps ty) e = (f : SigFault) × (e ≡ blamed_by (exports_kind own) text f) × IsOtherBodyIf text said defs name ps.items ty f
-IsLineOtherIf own text said defs given rows (Accumulate ws) e = Unit {0}
-IsLineOtherIf own text said defs given rows (AccumSig ws) e = Unit {0}
-IsLineOtherIf own text said defs given rows (Fixities names f n) e = Unit {0}
+abbrev pub HasLineTypeCause : Signature → List ℕ → List (Row Said) → List (Row Definition) → List (Row Ty) → List (Row Written) → Declaration → ModuleSigFault → Type 0
+HasLineTypeCause own text said defs given rows (Kinds names n) e = Unit {0}
+HasLineTypeCause own text said defs given rows (LocalKinds names count) e = Unit {0}
+HasLineTypeCause own text said defs given rows (Constants names ty) e = (f : SigFault) × (e ≡ blamed_by (exports_constant own) text f) × HasTypeCause text said defs given rows names.items ty f
+HasLineTypeCause own text said defs given rows (Locals names ty) e = HaveLocalsTypeCause text said defs given rows names.items ty e
+HasLineTypeCause own text said defs given rows (Abbreviation name ps ty) e = (f : SigFault) × (e ≡ blamed_by (exports_kind own) text f) × IsOtherBodyIf text said defs name ps.items ty f
+HasLineTypeCause own text said defs given rows (Accumulate ws) e = Unit {0}
+HasLineTypeCause own text said defs given rows (AccumSig ws) e = Unit {0}
+HasLineTypeCause own text said defs given rows (Fixities names f n) e = Unit {0}
 
--- what is told of a refusal at a sentence, behind those before it in the text: a constant that is declared otherwise is known, in the language, in the signatures or in these sentences, and where numbers are wanting none is left. Where the signatures are as texts have them, one that differs has another type than the known one, and an abbreviation another body than the first one of its name.
+-- what is told of a refusal at a sentence, behind those before it in the text: a constant that is declared otherwise is known, in the language, in the signatures or in these sentences, and where numbers are wanting none is left.
+-- Where the signatures are as texts have them, one that differs has another type than the known one, a type that is refused for its arguments has too many of them, or of type variables, and an abbreviation that differs has another body than the first one of its name.
 pub record IsToldAt (own : Signature) (used : List Signature) (text : List ℕ) (lines : List Sentence) (before : List Declaration) (line : Declaration) (e : ModuleSigFault) : Type 0 where
   pub names : HasLineCause own text ((constants_of own ++ of_each constants_of used) ++ constant_names_in text before) line e
-  pub types : AreOfTexts (own ∷ used) → IsLineOtherIf own text (said_in_module own used text lines)
+  pub types : AreOfTexts (own ∷ used) → HasLineTypeCause own text (said_in_module own used text lines)
       (as_trees (trees_here (said_of own ++ of_each said_of used) (bodies_of own ++ of_each bodies_of used)) ++ definitions_in text (declarations lines))
       (trees_here (said_of own ++ of_each said_of used) (types_of own ++ of_each types_of used)) (typed_in text before) line e
 

@@ -1,10 +1,21 @@
 -- What the walks over signatures have done, and what is left to do.
-use Rattle.std.specs.Prelude.{◌≡◌, ℕ, suc, ◌+◌, List, [], ◌∷◌, ◌++◌, Bool, true, false, map, reverse, length, Contains}
+use Rattle.std.specs.Global.{Global}
+use Rattle.std.specs.Prelude.{◌≡◌, ℕ, suc, ◌+◌, ◌<◌, List, [], ◌∷◌, ◌++◌, Bool, true, false, map, reverse, length, Contains, Vec}
+use Rattle.lp_syntax.specs.declared.text.SignatureText.{SignatureText}
 use Rattle.lp_sig.specs.Loading.{Way, Loads, LeadsTo, IsCircle, IsFirstCircle}
 use Rattle.lp_sig.specs.declared.walk.Step.{Step}
 use Rattle.lp_sig.specs.declared.walk.Step.TheVariants.{Enter, Declare}
 use Rattle.lp_sig.specs.declared.fault.SigFault.{SigFault}
 use Rattle.lp_sig.specs.declared.fault.SigFault.TheVariants as fault
+
+-- a step is that of a text
+abbrev pub number_of_step : Step → ℕ
+number_of_step (Enter i) = i
+number_of_step (Declare i) = i
+
+pub record HasText (sources : List (Vec ℕ Global)) (texts : List SignatureText) (s : Step) : Type 0 where
+  pub source : number_of_step s < length sources
+  pub text : number_of_step s < length texts
 
 abbrev pub entries : List Way → List Step
 entries words = map (λ w. Enter w.1) words

@@ -203,7 +203,7 @@ impl Constants {
             return Ok(Known::New);
         };
         let Some(constant) = self.constants.get(place) else {
-            return Err(Memory);
+            return Ok(Known::New);
         };
         match constant.declared {
             Some(declared) => Ok(Known::Typed(declared.scheme)),

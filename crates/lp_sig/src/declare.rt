@@ -24,7 +24,7 @@ ghost use Rattle.lp_sig.specs.Sighted.{GrowsBehind};
 ghost use Rattle.lp_sig.specs.ModuleFaults.{AreConstantsWrong, IsAbbreviationWrong};
 ghost use Rattle.lp_sig.specs.Worded.{HasWords};
 ghost use Rattle.lp_calculus.specs.Types.{Ty};
-ghost use Rattle.lp_sig.specs.Differing.{HasNameCause, IsOtherIf, IsOtherBodyIf};
+ghost use Rattle.lp_sig.specs.Differing.{HasNameCause, HasTypeCause, IsOtherBodyIf};
 ghost use Rattle.lp_sig.specs.inner.Reading.{Reads};
 ghost use Rattle.lp_sig.specs.inner.Taking.{IsTaking, Takes};
 ghost use Rattle.lp_sig.specs.Constants.{Written, written_in, constants_by, constants_in, KnowsConstants, AreSettledIf, AreTypedIf, AreTakenConstants, HasFewVariables, IsConstantsFault};
@@ -125,7 +125,7 @@ impl Names {
                     }
                     Ok(place)
                 }
-                None => Err(SigFault::Memory),
+                None => Err(SigFault::Differ(name)),
             },
             Some(Meaning::Kind(_, _)) => Err(SigFault::Differ(name)),
             None => Err(SigFault::Differ(name)),
@@ -155,7 +155,7 @@ pub(crate) fn declare_constants(
     ensures words { OnOk result ((words : List (List ℕ)) → HasWords constants.old words → HasWords constants.new (words ++ map (λ s. spelled source.now s) spots.now)) }
     ensures reads { OnOk result (Reads names.now bodies.old constants.old bodies.new constants.new (each source.now (written_in source.now raw.now) spots.now) (map (λ s. spelled source.now s) spots.now)) }
     ensures full { (said : List (Row Said)) (words : List (List ℕ)) → Knows names.now said → HasWords constants.old words → IfErr result (HasNameCause source.now words spots.now) }
-    ensures other { (said : List (Row Said)) (defs : List (Row Definition)) (given : List (Row Ty)) (rows : List (Row Written)) (words : List (List ℕ)) → IsTaking names.now bodies.old constants.old said defs given rows words → IfErr result (IsOtherIf source.now said defs given rows spots.now raw.now) }
+    ensures other { (said : List (Row Said)) (defs : List (Row Definition)) (given : List (Row Ty)) (rows : List (Row Written)) (words : List (List ℕ)) → IsTaking names.now bodies.old constants.old said defs given rows words → IfErr result (HasTypeCause source.now said defs given rows spots.now raw.now) }
     ensures takes { OnOk result (Takes names.now bodies.old constants.old bodies.new constants.new (each source.now (written_in source.now raw.now) spots.now) (map (λ s. spelled source.now s) spots.now)) }
 {
     check_lengths(source, spots)?;

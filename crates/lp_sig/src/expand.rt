@@ -261,10 +261,7 @@ impl Bodies {
         ensures bodies { self.new.bodies ≡ self.old.bodies }
         ensures typed { (said : List (Row Said)) (defs : List (Row Definition)) (name : List ℕ) → HoldsBodies self.old.types.bank self.old.bodies.items said defs → first_place name (abbreviation_names said) ≡ Some place → IfOk result (λ made. IfType made (IsReplaced self.old.types.bank self.new.types.bank said defs name done.now arguments.now)) }
     {
-        let Some(head) = names.heads.get(place) else {
-            return Err(Memory);
-        };
-        if arguments.len() != head.parameters {
+        if arguments.len() != names.parameters_at(place) {
             return Ok(Made::Arity);
         }
         let Some(body) = self.body_at(place) else {

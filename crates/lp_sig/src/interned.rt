@@ -84,9 +84,6 @@ impl Types {
         if made.contains_key(&id.0) {
             return Ok(());
         }
-        if id.0 >= self.bank.type_count() {
-            return Err(Memory);
-        }
         match self.bank.type_node(id) {
             TypeNode::Var(number) => keep(made, id, put_for(number, id, args)),
             TypeNode::Param(_) => keep(made, id, id),
@@ -108,9 +105,6 @@ impl Types {
         ensures kept { Extends self.old.bank self.new.bank }
         ensures copies { OnOk result ((b : Nodes) (args : List TypeId) → Extends b self.old.bank → id.0 < length b.types → AreCopies b args self.old.bank made.old → AreCopies b args self.new.bank made.new) }
     {
-        if id.0 >= self.bank.type_count() {
-            return Err(Memory);
-        }
         match self.bank.type_node(id) {
             TypeNode::Var(_) => Ok(()),
             TypeNode::Param(_) => Ok(()),
@@ -170,9 +164,6 @@ impl Types {
         ensures falls { OnOk result (total self.now.bank work.new.items < total self.now.bank work.old.items + type_size (type_tree self.now.bank id.0)) }
         ensures opened { OnOk result (IsOpened self.now.bank id.0 found.old.keys found.new.keys (reverse work.old.items) (reverse work.new.items)) }
     {
-        if id.0 >= self.bank.type_count() {
-            return Err(Memory);
-        }
         match self.bank.type_node(id) {
             TypeNode::Var(number) => {
                 found.insert(number)?;

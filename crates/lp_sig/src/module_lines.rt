@@ -29,9 +29,9 @@ ghost use Rattle.lp_calculus.specs.Types.{Ty};
 ghost use Rattle.lp_term.specs.Nodes.{Extends};
 ghost use Rattle.lp_sig.specs.Types.{Definition};
 ghost use Rattle.lp_sig.specs.Constants.{Written, written_in};
-ghost use Rattle.lp_sig.specs.Differing.{HasNameCause, IsOtherIf, IsOtherBodyIf};
+ghost use Rattle.lp_sig.specs.Differing.{HasNameCause, HasTypeCause, IsOtherBodyIf};
 ghost use Rattle.lp_sig.specs.Holding.{HoldsBodies};
-ghost use Rattle.lp_sig.specs.ModuleFaults.{HaveLocalsCause, AreLocalsOtherIf, HasLineCause, IsLineOtherIf};
+ghost use Rattle.lp_sig.specs.ModuleFaults.{HaveLocalsCause, HaveLocalsTypeCause, HasLineCause, HasLineTypeCause};
 ghost use Rattle.lp_sig.specs.inner.Taking.{IsInside, AreOtherIds, AddsNames, IsTaking, TakesOn};
 ghost use Rattle.lp_sig.specs.AsWritten.{typed_locals, typed_by};
 ghost use Rattle.lp_sig.specs.inner.Reading.{CanDeclare, AreDeclaredAs, ReadsOn};
@@ -246,7 +246,7 @@ impl<'a> ModuleLines<'a> {
         ensures kept { making.new.bodies.bodies ≡ making.old.bodies.bodies }
         ensures reads { OnOk result (ReadsOn making.old making.new (each self.now.source.now (written_in self.now.source.now raw.now) names.now) (map (λ s. spelled self.now.source.now s) names.now)) }
         ensures full { (said : List (Row IsSaid)) (words : List (List ℕ)) → Knows making.old.names said → HasWords making.old.constants words → IfErr result (λ e. (f : IsFault) × (e ≡ blamed_by (exports_constant self.now.own.now) self.now.source.now f) × HasNameCause self.now.source.now words names.now f) }
-        ensures other { (said : List (Row IsSaid)) (defs : List (Row Definition)) (given : List (Row Ty)) (rows : List (Row Written)) (words : List (List ℕ)) → IsTaking making.old.names making.old.bodies making.old.constants said defs given rows words → IfErr result (λ e. (f : IsFault) × (e ≡ blamed_by (exports_constant self.now.own.now) self.now.source.now f) × IsOtherIf self.now.source.now said defs given rows names.now raw.now f) }
+        ensures other { (said : List (Row IsSaid)) (defs : List (Row Definition)) (given : List (Row Ty)) (rows : List (Row Written)) (words : List (List ℕ)) → IsTaking making.old.names making.old.bodies making.old.constants said defs given rows words → IfErr result (λ e. (f : IsFault) × (e ≡ blamed_by (exports_constant self.now.own.now) self.now.source.now f) × HasTypeCause self.now.source.now said defs given rows names.now raw.now f) }
         ensures takes { OnOk result (TakesOn making.old making.new (each self.now.source.now (written_in self.now.source.now raw.now) names.now) (map (λ s. spelled self.now.source.now s) names.now)) }
         ensures refused { (said : List (Row IsSaid)) → Knows making.old.names said → IfErr result (λ e. (e ≡ wrong.Sig reason.Memory) ⊎ ((f : IsFault) × AreConstantsWrong self.now.source.now said names.now raw.now f × (e ≡ blamed_by (exports_constant self.now.own.now) self.now.source.now f))) }
         ensures taken { (said : List (Row IsSaid)) → Knows making.old.names said → IfOk result (λ done. AreShort self.now.source.now names.now × IsSoundType self.now.source.now said raw.now) }
@@ -353,7 +353,7 @@ impl<'a> ModuleLines<'a> {
         ensures told { (f : IsFault) → result ≡ wrong.Sig f → (f ≡ reason.Memory) ⊎ ((f ≡ reason.Limit limit.NameLength) ⊎ (f ≡ fault)) }
     {
         if is_memory(fault) {
-            return ModuleSigFault::Sig(SigFault::Memory);
+            return ModuleSigFault::Sig(fault);
         }
         match self.check_locals(names) {
             Err(exported) => exported,
@@ -376,7 +376,7 @@ impl<'a> ModuleLines<'a> {
         ensures kept { making.new.bodies.bodies ≡ making.old.bodies.bodies }
         ensures reads { OnOk result (ReadsOn making.old making.new (each self.now.source.now (written_in self.now.source.now raw.now) names.now) (map (λ s. spelled self.now.source.now s) names.now)) }
         ensures full { (said : List (Row IsSaid)) (words : List (List ℕ)) → Knows making.old.names said → HasWords making.old.constants words → IfErr result (λ e. (f : IsFault) → e ≡ wrong.Sig f → HasNameCause self.now.source.now words names.now f) }
-        ensures other { (said : List (Row IsSaid)) (defs : List (Row Definition)) (given : List (Row Ty)) (rows : List (Row Written)) (words : List (List ℕ)) → IsTaking making.old.names making.old.bodies making.old.constants said defs given rows words → IfErr result (λ e. (f : IsFault) → e ≡ wrong.Sig f → IsOtherIf self.now.source.now said defs given rows names.now raw.now f) }
+        ensures other { (said : List (Row IsSaid)) (defs : List (Row Definition)) (given : List (Row Ty)) (rows : List (Row Written)) (words : List (List ℕ)) → IsTaking making.old.names making.old.bodies making.old.constants said defs given rows words → IfErr result (λ e. (f : IsFault) → e ≡ wrong.Sig f → HasTypeCause self.now.source.now said defs given rows names.now raw.now f) }
         ensures takes { OnOk result (TakesOn making.old making.new (each self.now.source.now (written_in self.now.source.now raw.now) names.now) (map (λ s. spelled self.now.source.now s) names.now)) }
         ensures refused { (said : List (Row IsSaid)) → Knows making.old.names said → IfErr result (λ e. (e ≡ wrong.Sig reason.Memory) ⊎ AreLocalsWrong self.now.own.now self.now.source.now said names.now raw.now e) }
         ensures taken { (said : List (Row IsSaid)) → Knows making.old.names said → IfOk result (λ done. All (IsLocal (exports_constant self.now.own.now) self.now.source.now (IsShort self.now.source.now)) names.now × IsSoundType self.now.source.now said raw.now) }
@@ -426,7 +426,7 @@ impl<'a> ModuleLines<'a> {
         ensures kept { making.new.bodies.bodies ≡ making.old.bodies.bodies }
         ensures reads { OnOk result (ReadsOn making.old making.new (typed_locals self.now.source.now names.now raw.now) (local_names self.now.source.now names.now raw.now)) }
         ensures full { (said : List (Row IsSaid)) (words : List (List ℕ)) → Knows making.old.names said → HasWords making.old.constants words → IfErr result (HaveLocalsCause self.now.source.now words names.now raw.now) }
-        ensures other { (said : List (Row IsSaid)) (defs : List (Row Definition)) (given : List (Row Ty)) (rows : List (Row Written)) (words : List (List ℕ)) → IsTaking making.old.names making.old.bodies making.old.constants said defs given rows words → IfErr result (AreLocalsOtherIf self.now.source.now said defs given rows names.now raw.now) }
+        ensures other { (said : List (Row IsSaid)) (defs : List (Row Definition)) (given : List (Row Ty)) (rows : List (Row Written)) (words : List (List ℕ)) → IsTaking making.old.names making.old.bodies making.old.constants said defs given rows words → IfErr result (HaveLocalsTypeCause self.now.source.now said defs given rows names.now raw.now) }
         ensures takes { OnOk result (TakesOn making.old making.new (typed_locals self.now.source.now names.now raw.now) (local_names self.now.source.now names.now raw.now)) }
         ensures refused { (said : List (Row IsSaid)) (known : List (List ℕ)) → Knows making.old.names said → HasKeys self.now.said.now.constants known → IfErr result (λ e. (e ≡ wrong.Sig reason.Memory) ⊎ AreLocalsRefused self.now.own.now self.now.source.now said known names.now raw.now e) }
         ensures taken { (said : List (Row IsSaid)) (known : List (List ℕ)) → Knows making.old.names said → HasKeys self.now.said.now.constants known → IfOk result (λ done. AreLocalsTaken self.now.own.now self.now.source.now said known names.now raw.now) }
@@ -502,7 +502,7 @@ impl<'a> ModuleLines<'a> {
         ensures kept { making.new.bodies.bodies ≡ making.old.bodies.bodies }
         ensures reads { OnOk result (ReadsOn making.old making.new (typed_by self.now.source.now declaration.now) (constant_names_by self.now.source.now declaration.now)) }
         ensures full { (said : List (Row IsSaid)) (words : List (List ℕ)) → Knows making.old.names said → HasWords making.old.constants words → IfErr result (HasLineCause self.now.own.now self.now.source.now words declaration.now) }
-        ensures other { (said : List (Row IsSaid)) (defs : List (Row Definition)) (given : List (Row Ty)) (rows : List (Row Written)) (words : List (List ℕ)) → IsTaking making.old.names making.old.bodies making.old.constants said defs given rows words → IfErr result (IsLineOtherIf self.now.own.now self.now.source.now said defs given rows declaration.now) }
+        ensures other { (said : List (Row IsSaid)) (defs : List (Row Definition)) (given : List (Row Ty)) (rows : List (Row Written)) (words : List (List ℕ)) → IsTaking making.old.names making.old.bodies making.old.constants said defs given rows words → IfErr result (HasLineTypeCause self.now.own.now self.now.source.now said defs given rows declaration.now) }
         ensures takes { OnOk result (TakesOn making.old making.new (typed_by self.now.source.now declaration.now) (constant_names_by self.now.source.now declaration.now)) }
         ensures alike { OnOk result ((signatures modules : List (List ℕ)) → HasNumbers self.now.said.now.accum_sigs signatures → HasNumbers self.now.said.now.accumulates modules → AreWordsAlike self.now.sights.now self.now.source.now signatures modules (declaration.now ∷ [])) }
         ensures refused { (used : List IsSignature) (z : IsSeen) (ds : List IsDeclaration) → AreSights self.now.own.now used self.now.source.now self.now.said.now self.now.sights.now ds → Knows making.old.names z.said → KnowsUses (map (λ out. out.items) making.old.uses.ways.items) z → HasKeys self.now.said.now.kinds (kind_names_in self.now.source.now ds) → HasKeys self.now.said.now.constants (constant_names_in self.now.source.now ds) → IfErr result (λ e. (e ≡ wrong.Sig reason.Memory) ⊎ IsLineFault self.now.own.now used self.now.source.now z ds declaration.now e) }

@@ -10,7 +10,7 @@ ghost use Rattle.lp_sig.specs.Modules.{declarations, of_each, said_of, constants
 ghost use Rattle.lp_sig.specs.Named.{NamedTy, IsOrdered, SeesTheirs, kind_names};
 ghost use Rattle.lp_sig.specs.Sighted.{Grows, AreCounted, AreKinds, AreNew, SeenSo};
 ghost use Rattle.lp_sig.specs.Sights.{HasKeys, HasNumbers, AreAlike, AreWordsAlike};
-ghost use Rattle.lp_sig.specs.ModuleFaults.{kind_names_in, IsLineFault, IsLineTaken, IsFaultAmong, HasLineCause, IsLineOtherIf, IsDeclarationRefusal};
+ghost use Rattle.lp_sig.specs.ModuleFaults.{kind_names_in, IsLineFault, IsLineTaken, IsFaultAmong, HasLineCause, HasLineTypeCause, IsDeclarationRefusal};
 ghost use Rattle.lp_sig.specs.declared.fault.SigFault.TheVariants as fault;
 ghost use Rattle.lp_sig.specs.declared.module_fault.ModuleSigFault.TheVariants as wrong;
 ghost use Rattle.lp_syntax.specs.declared.text.Declaration.{Declaration as IsDeclaration};
@@ -118,7 +118,7 @@ fn declare_sentence(
     ensures kept { making.new.bodies.bodies ≡ making.old.bodies.bodies }
     ensures reads { OnOk result (ReadsOn making.old making.new (typed_in lines.now.source.now (declarations (sentence.now ∷ []))) (constant_names_in lines.now.source.now (declarations (sentence.now ∷ [])))) }
     ensures full { (said : List (Row IsSaid)) (words : List (List ℕ)) → Knows making.old.names said → HasWords making.old.constants words → (d : IsDeclaration) → sentence.now ≡ Declares d → IfErr result (HasLineCause lines.now.own.now lines.now.source.now words d) }
-    ensures other { (said : List (Row IsSaid)) (defs : List (Row Definition)) (given : List (Row Ty)) (rows : List (Row Written)) (words : List (List ℕ)) → IsTaking making.old.names making.old.bodies making.old.constants said defs given rows words → (d : IsDeclaration) → sentence.now ≡ Declares d → IfErr result (IsLineOtherIf lines.now.own.now lines.now.source.now said defs given rows d) }
+    ensures other { (said : List (Row IsSaid)) (defs : List (Row Definition)) (given : List (Row Ty)) (rows : List (Row Written)) (words : List (List ℕ)) → IsTaking making.old.names making.old.bodies making.old.constants said defs given rows words → (d : IsDeclaration) → sentence.now ≡ Declares d → IfErr result (HasLineTypeCause lines.now.own.now lines.now.source.now said defs given rows d) }
     ensures takes { OnOk result (TakesOn making.old making.new (typed_in lines.now.source.now (declarations (sentence.now ∷ []))) (constant_names_in lines.now.source.now (declarations (sentence.now ∷ [])))) }
     ensures words { OnOk result ((words : List (List ℕ)) → HasWords making.old.constants words → HasWords making.new.constants (words ++ constant_names_in lines.now.source.now (declarations (sentence.now ∷ [])))) }
     ensures alike { OnOk result ((signatures modules : List (List ℕ)) → HasNumbers lines.now.said.now.accum_sigs signatures → HasNumbers lines.now.said.now.accumulates modules → AreWordsAlike lines.now.sights.now lines.now.source.now signatures modules (declarations (sentence.now ∷ []))) }

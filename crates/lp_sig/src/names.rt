@@ -1,5 +1,5 @@
 // The names of kinds and abbreviations so far, each at its first declaration.
-ghost use Rattle.std.specs.Prelude.{◌≡◌, ◌+◌, min, not, IfOk, ℕ, List, [], ◌∷◌, ◌++◌, map, is_some, option_map, IfSome, OnOk};
+ghost use Rattle.std.specs.Prelude.{◌≡◌, ◌+◌, min, not, IfOk, ℕ, List, [], ◌∷◌, ◌++◌, map, is_some, option_map, slice_index_or, IfSome, OnOk};
 ghost use Rattle.lp_sig.specs.Places.{HasPlaces, first_place};
 ghost use Rattle.lp_sig.specs.Abbreviations.{abbreviation_names, place_meant};
 ghost use Rattle.lp_sig.specs.Rows.{Row};
@@ -83,6 +83,16 @@ impl Names {
         let place = self.kind_places.of(name)?;
         let kind = self.kinds.get(place)?;
         Some(Meaning::Kind(kind_number(place), kind.arity))
+    }
+
+    // The count of parameters of the abbreviation at a place.
+    pub(crate) fn parameters_at(&self, place: usize) -> usize
+        ensures { result ≡ (slice_index_or (map head_row self.now.heads.items) place ([], 0)).1 }
+    {
+        match self.heads.get(place) {
+            Some(head) => head.parameters,
+            None => 0,
+        }
     }
 
     // A kind behind the others, whatever its name means.

@@ -182,9 +182,6 @@ impl Types {
         ensures told { IfOk result (λ t. (said : List (Row Said)) (names : List (List ℕ)) → AreNumberedHere said names kinds.now → AreTypesHere bank.now self.old.bank names said made.now →
             (t.0 < length self.new.bank.types) × (IsWhole (named (kind_name names) (type_tree bank.now id.0)) → IsTypeHere said (type_tree self.new.bank t.0) (named (kind_name names) (type_tree bank.now id.0)))) }
     {
-        if id.0 >= bank.type_count() {
-            return Err(Memory);
-        }
         match bank.type_node(id) {
             TypeNode::Var(number) => self.var(number),
             TypeNode::Param(_) => Err(Memory),
@@ -289,28 +286,20 @@ impl Operators {
 
 impl Making {
     // How an abbreviation that is known goes with this one.
-    fn sight_of_abbreviation(
-        &self,
-        name: &[u8],
-        parameters: usize,
-        body: TypeId,
-    ) -> Result<Sight, Memory>
-        ensures told { IfOk result (λ s. (said : List (Row Said)) (rows : List (Row NamedTy)) (t : NamedTy) → Knows self.now.names said → AreBodiesHere self.now.bodies.types.bank self.now.bodies.bodies.items said rows →
-            IsTree self.now.bodies.types.bank (λ T. IsTypeHere said T t) body → EachKind (FitsHere said) t → AbbreviationTells said rows name.now parameters t s) }
+    fn sight_of_abbreviation(&self, name: &[u8], parameters: usize, body: TypeId) -> Sight
+        ensures told { (said : List (Row Said)) (rows : List (Row NamedTy)) (t : NamedTy) → Knows self.now.names said → AreBodiesHere self.now.bodies.types.bank self.now.bodies.bodies.items said rows →
+            IsTree self.now.bodies.types.bank (λ T. IsTypeHere said T t) body → EachKind (FitsHere said) t → AbbreviationTells said rows name.now parameters t result }
     {
         match self.names.meaning(name) {
-            None => Err(Memory),
-            Some(Meaning::Kind(_, _)) => Ok(Sight::Otherwise),
-            Some(Meaning::Abbreviation(place)) => match self.names.heads.get(place) {
-                Some(known) => {
-                    if known.parameters != parameters {
-                        return Ok(Sight::Otherwise);
-                    }
-                    let is_other = self.bodies.has_other_body(place, Some(body));
-                    Ok(Sight::if_alike(!is_other))
+            None => Sight::Otherwise,
+            Some(Meaning::Kind(_, _)) => Sight::Otherwise,
+            Some(Meaning::Abbreviation(place)) => {
+                if self.names.parameters_at(place) != parameters {
+                    return Sight::Otherwise;
                 }
-                None => Err(Memory),
-            },
+                let is_other = self.bodies.has_other_body(place, Some(body));
+                Sight::if_alike(!is_other)
+            }
         }
     }
 
@@ -340,7 +329,7 @@ impl Making {
             self.bodies.add(Some(body), None)?;
             return Ok(Sight::Alike);
         }
-        self.sight_of_abbreviation(entry.name.as_slice(), parameters, body)
+        Ok(self.sight_of_abbreviation(entry.name.as_slice(), parameters, body))
     }
 
     fn see_abbreviations(

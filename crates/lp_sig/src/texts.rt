@@ -1,10 +1,11 @@
 // From texts to a signature.
-ghost use Rattle.std.specs.Prelude.{◌≡◌, ◌≢◌, ◌⊎◌, ◌++◌, ℕ, List, IfOk, IfErr, OnOk, map, string_bytes};
+ghost use Rattle.std.specs.Prelude.{◌≡◌, ◌≢◌, ◌<◌, ◌⊎◌, ◌++◌, ℕ, List, length, IfOk, IfErr, OnOk, map, string_bytes};
 ghost use Rattle.lp_sig.specs.Pieces.{spelled};
 ghost use Rattle.lp_standard.specs.declared.fixity.Fixity.{Fixity};
 ghost use Rattle.lp_sig.specs.Rows.{Row, kind_row, fixity_row};
 ghost use Rattle.lp_sig.specs.Said.{fixities_in, of_text, of_step};
 ghost use Rattle.lp_sig.specs.Knowing.{KnowsOperators};
+ghost use Rattle.lp_sig.specs.Walking.{HasText};
 ghost use Rattle.lp_sig.specs.Refusals.{HasItsHeader, HasOtherHeader, IsAtFault, AreTaken, IsStepTaken, IsStepRefused, IsRefusal, IsAccepted};
 ghost use Rattle.lp_sig.specs.declared.fault.SigFault.TheVariants as fault;
 ghost use Rattle.lp_sig.specs.Abbreviations.{Seen, one_text};
@@ -39,19 +40,15 @@ fn enter(
     texts: &[SignatureText],
     at: usize,
 ) -> Result<(), SigFault>
+    requires source { at < length sources.now }
+    requires text { at < length texts.now }
     ensures refused { IfErr result (λ e. (e ≡ fault.Memory) ⊎ HasOtherHeader names.now sources.now texts.now at e) }
     ensures taken { IfOk result (λ done. HasItsHeader names.now sources.now texts.now at) }
 {
     let Some(name) = names.get(at) else {
         return Err(SigFault::Memory);
     };
-    let Some(source) = sources.get(at) else {
-        return Err(SigFault::Memory);
-    };
-    let Some(text) = texts.get(at) else {
-        return Err(SigFault::Memory);
-    };
-    check_header(name, source.as_slice(), text)
+    check_header(name, sources[at].as_slice(), &texts[at])
 }
 
 // The declarations of a signature.
@@ -61,19 +58,15 @@ fn declare(
     texts: &[SignatureText],
     at: usize,
 ) -> Result<(), SigFault>
+    requires source { at < length sources.now }
+    requires text { at < length texts.now }
     ensures refused { (z : Seen) (rows : List (Row Written)) → KnowsSeen making.old z → KnowsConstants making.old.bodies.types.bank making.old.constants z.said z.definitions rows → AreAllTyped making.old z rows → IfErr result (λ e. (e ≡ fault.Memory) ⊎ IsAtFault sources.now texts.now z rows at e) }
     ensures constants { OnOk result (Declares making.old making.new (of_text one_text sources.now texts.now at)) }
     ensures taken { (z : Seen) (rows : List (Row Written)) → KnowsSeen making.old z → KnowsConstants making.old.bodies.types.bank making.old.constants z.said z.definitions rows → AreAllTyped making.old z rows → IfOk result (λ done. AreTaken sources.now texts.now z rows at) }
     ensures seen { OnOk result (Follows making.old making.new (of_text one_text sources.now texts.now at)) }
     ensures operators { OnOk result ((said : List (Row (Fixity × ℕ))) → KnowsOperators making.old.operators said → KnowsOperators making.new.operators (said ++ of_text fixities_in sources.now texts.now at)) }
 {
-    let Some(source) = sources.get(at) else {
-        return Err(SigFault::Memory);
-    };
-    let Some(text) = texts.get(at) else {
-        return Err(SigFault::Memory);
-    };
-    making.declare(source.as_slice(), text)
+    making.declare(sources[at].as_slice(), &texts[at])
 }
 
 // Takes a step.
@@ -84,6 +77,7 @@ fn take(
     texts: &[SignatureText],
     step: Step,
 ) -> Result<(), SigFault>
+    requires { HasText sources.now texts.now step }
     ensures refused { (z : Seen) (rows : List (Row Written)) → KnowsSeen making.old z → KnowsConstants making.old.bodies.types.bank making.old.constants z.said z.definitions rows → AreAllTyped making.old z rows → IfErr result (λ e. (e ≡ fault.Memory) ⊎ IsStepRefused names.now sources.now texts.now z rows step e) }
     ensures constants { OnOk result (Declares making.old making.new (of_step one_text sources.now texts.now step)) }
     ensures taken { (z : Seen) (rows : List (Row Written)) → KnowsSeen making.old z → KnowsConstants making.old.bodies.types.bank making.old.constants z.said z.definitions rows → AreAllTyped making.old z rows → IfOk result (λ done. IsStepTaken names.now sources.now texts.now z rows step) }

@@ -153,11 +153,8 @@ impl Ways {
     {
         let numbers = places_of(alloc, names)?;
         let mut ways = Vec::new(alloc);
-        for (at, text) in texts.iter().enumerate() {
-            let Some(source) = sources.get(at) else {
-                return Err(Memory);
-            };
-            let out = ways_of(alloc, &numbers, source.as_slice(), text)?;
+        for at in 0..sources.len().min(texts.len()) {
+            let out = ways_of(alloc, &numbers, sources[at].as_slice(), &texts[at])?;
             ways.push(out)?;
         }
         Ok(Ways { ways })

@@ -1,6 +1,6 @@
 -- Variables around a term that differ in their registers alone.
 use Rattle.std.specs.Prelude.{◌≡◌, ℕ, List, [], ◌∷◌, Option, Some, None}
-use Rattle.lp_gen.specs.inner.Listing.{Seen, Around}
+use Rattle.lp_gen.specs.Steps.{Seen, Around}
 
 abbrev pub SameSeen : Option Seen → Option Seen → Type 0
 SameSeen None None = Unit {0}

@@ -10,7 +10,7 @@ use Rattle.lp_code.specs.Rules.{breaks_head}
 use Rattle.lp_code.specs.Denote.{run}
 use Rattle.lp_gen.specs.declared.emitter.Emitter.{Emitter}
 use Rattle.lp_gen.specs.inner.Running.{TypesStand, TermsStand, HasRoom}
-use Rattle.lp_gen.specs.inner.Listing.{Seen, Around, at_level, set_level}
+use Rattle.lp_gen.specs.Steps.{Seen, Around, at_level, set_level}
 use Rattle.lp_gen.specs.inner.TermLaw.{Standing, SameAround}
 use Rattle.lp_gen.specs.inner.Owned.{makes, makes_types, IsPlain, AreStarted}
 use Rattle.lp_gen.specs.inner.Written.{Goes, CodeOwns}

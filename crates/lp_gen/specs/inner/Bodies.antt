@@ -11,7 +11,7 @@ use Rattle.lp_code.specs.Steps.{Later, settled}
 use Rattle.lp_code.specs.Denote.{run}
 use Rattle.lp_gen.specs.inner.Running.{TypesStand, TermsStand}
 use Rattle.lp_code.specs.Written.{nothing_written}
-use Rattle.lp_gen.specs.inner.Listing.{Seen, Around, level_in}
+use Rattle.lp_gen.specs.Steps.{Seen, Around, level_in}
 use Rattle.lp_gen.specs.inner.TermLaw.{level_term, with_variables}
 
 -- one variable more, innermost

@@ -18,7 +18,8 @@ use Rattle.lp_gen.specs.declared.plan.Assumption.{Assumption}
 use Rattle.lp_gen.specs.declared.tables.Tables.{Tables}
 use Rattle.lp_gen.specs.declared.plan.Step.TheVariants as on
 use Rattle.lp_gen.specs.inner.Running.{IsTypePut}
-use Rattle.lp_gen.specs.inner.Listing.{Seen, Around, seen, around_of, at_level}
+use Rattle.lp_gen.specs.Steps.{Seen, Around, at_level}
+use Rattle.lp_gen.specs.inner.Listing.{seen, around_of}
 use Rattle.lp_gen.specs.inner.TermLaw.{AreSet}
 use Rattle.lp_gen.specs.inner.Bodies.{pushed, new_level}
 use Rattle.lp_gen.specs.inner.Beginning.{NeckPut}

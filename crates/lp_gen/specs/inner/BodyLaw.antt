@@ -18,7 +18,7 @@ use Rattle.lp_code.specs.Rules.{named_before, is_assumed_record}
 use Rattle.lp_code.specs.Denote.{is_all_variable, is_set_by_all, sets_by_all}
 use Rattle.lp_gen.specs.Sources.{types_by, IsKnownType}
 use Rattle.lp_gen.specs.inner.Running.{TypesStand, TermsStand}
-use Rattle.lp_gen.specs.inner.Listing.{Seen, Around, at_level, level_in}
+use Rattle.lp_gen.specs.Steps.{Seen, Around, at_level, level_in}
 use Rattle.lp_gen.specs.inner.TermLaw.{Standing, KnownAtoms, AllLoose, IsSeen, AreSet}
 use Rattle.lp_gen.specs.inner.Written.{AreAsked}
 use Rattle.lp_gen.specs.inner.Bodies.{IsShort}

@@ -20,7 +20,7 @@ use Rattle.lp_code.specs.Denote.{run}
 use Rattle.lp_gen.specs.declared.emitter.Emitter.{Emitter}
 use Rattle.lp_gen.specs.Sources.{types_by, IsKnownType}
 use Rattle.lp_gen.specs.inner.Running.{TypesStand, TermsStand, MayEnd}
-use Rattle.lp_gen.specs.inner.Listing.{Around}
+use Rattle.lp_gen.specs.Steps.{Around}
 use Rattle.lp_gen.specs.inner.TermLaw.{Standing, KnownAtoms, AllLoose, IsSeen, with_variables, SameAround, AreSet}
 use Rattle.lp_gen.specs.inner.Owned.{makes_types, AreStarted}
 use Rattle.lp_gen.specs.inner.Written.{CodeOwns, AreAsked}

@@ -7,7 +7,8 @@ use Rattle.lp_code.specs.declared.instruction.Instr.{Instr}
 use Rattle.lp_code.specs.declared.instruction.Instr.TheVariants as on
 use Rattle.lp_gen.specs.declared.emitter.Emitter.{Emitter}
 use Rattle.lp_gen.specs.declared.environment.Environment.{Environment}
-use Rattle.lp_gen.specs.inner.Listing.{Seen, Around, around_of}
+use Rattle.lp_gen.specs.Steps.{Seen, Around}
+use Rattle.lp_gen.specs.inner.Listing.{around_of}
 
 -- a variable that is still to be made
 abbrev pub unmade : (register : ℕ) → Ty → Seen

@@ -4,7 +4,7 @@ use Rattle.lp_code.specs.declared.instruction.Instr.{Instr}
 use Rattle.lp_code.specs.declared.instruction.Instr.TheVariants.{TyCon, PutConst, PutStr, PutApp, GetConst, GetStr, Call, Assume}
 use Rattle.lp_gen.specs.declared.fault.RecordRefusal.{RecordRefusal}
 use Rattle.lp_gen.specs.declared.fault.RecordRefusal.TheVariants as refusal
-use Rattle.lp_gen.specs.Limits.{past}
+use Rattle.lp_gen.specs.Registers.{past}
 
 abbrev pub is_fitting : Instr → Bool
 is_fitting (TyCon d k ts) = nat_lt (length ts.items) 256

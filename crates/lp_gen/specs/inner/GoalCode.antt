@@ -11,7 +11,7 @@ use Rattle.lp_code.specs.Denote.{from_zero}
 use Rattle.lp_gen.specs.declared.emitter.Emitter.{Emitter}
 use Rattle.lp_gen.specs.Sources.{ends_list}
 use Rattle.lp_gen.specs.inner.Running.{IsTypePut}
-use Rattle.lp_gen.specs.inner.Listing.{Seen, Around, at_level}
+use Rattle.lp_gen.specs.Steps.{Seen, Around, at_level}
 use Rattle.lp_gen.specs.inner.Doing.{AtomWritten}
 use Rattle.lp_gen.specs.inner.Bodies.{pushed, IsShort}
 

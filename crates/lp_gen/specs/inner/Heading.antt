@@ -1,5 +1,5 @@
 -- The code of an argument of the head.
-use Rattle.std.specs.Prelude.{◌≡◌, ℕ, ◌+◌, ◌≤◌, ◌<◌, true, false, if◌then◌else◌, is_some, All, List, [], ◌∷◌, ◌++◌, map, length, sum_by, Option, Some, None, slice_get, slice_set}
+use Rattle.std.specs.Prelude.{◌≡◌, ℕ, ◌+◌, ◌≤◌, ◌<◌, true, false, is_some, All, List, [], ◌∷◌, ◌++◌, map, length, sum_by, Option, Some, None, slice_get, slice_set}
 use Rattle.std.specs.List.{list_any}
 use Rattle.lp_calculus.specs.Types.{Ty}
 use Rattle.lp_calculus.specs.Term.{Term, Atom, index, atom, abs, app, constant, integer, text, eigen, logic, param}
@@ -20,7 +20,7 @@ use Rattle.lp_code.specs.Steps.{Later, head_built}
 use Rattle.lp_code.specs.Rules.{breaks_head, head_count, out_of_turn, is_variable_of, stands_in}
 use Rattle.lp_gen.specs.declared.emitter.Emitter.{Emitter}
 use Rattle.lp_gen.specs.inner.Running.{TypesStand, TermsStand, HasRoom}
-use Rattle.lp_gen.specs.inner.Listing.{Seen, Around, level_in, at_level}
+use Rattle.lp_gen.specs.Steps.{Seen, Around, level_in, at_level}
 use Rattle.lp_gen.specs.inner.TermLaw.{SameSides, Asks, Standing, KnownAtoms, AllLoose, IsSeen, with_variables, SameAround}
 use Rattle.lp_gen.specs.Sources.{types_by, IsKnownType}
 use Rattle.lp_gen.specs.inner.Owned.{makes, makes_types, IsPlain, AreStarted}
@@ -41,21 +41,6 @@ pub record VariableGot (old new : Emitter) (i register : ℕ) : Type 0 where
       (t : State)
       × Does h later vars old.types old.types old.registers old.registers s more s.goals s.head_types (s.head_arguments ++ whole (variable register h.number) T ∷ []) t
       × (t.now.terms ≡ slice_set s.now.terms register (Some (whole (variable register h.number) T)))
-
--- the level and register of the variable that an argument is, where this is its first place
-abbrev pub if_unset : ℕ → Option Seen → Option (ℕ × ℕ)
-if_unset l None = None
-if_unset l (Some v) = if v.is_set then None else Some (l, v.register)
-
-abbrev pub level_first : Around → Option ℕ → Option (ℕ × ℕ)
-level_first a None = None
-level_first a (Some l) = if_unset l (at_level a l)
-
-abbrev pub first_place : Around → Term → Option (ℕ × ℕ)
-first_place a (index i) = level_first a (level_in a i)
-first_place a (atom s) = None
-first_place a (abs b) = None
-first_place a (app t u) = None
 
 -- the own variables of a record are made by it, and those that it starts with are other ones
 pub record AreOwn (h : Home) (σ : ℕ → Term) (a : Around) : Type 0 where

@@ -5,7 +5,7 @@ use Rattle.lp_base.specs.declared.limit.Limit.TheVariants as limit
 use Rattle.lp_calculus.specs.Term.{Term}
 use Rattle.lp_term.specs.Nodes.{Nodes, tree}
 use Rattle.lp_term.specs.Walk.{size}
-use Rattle.lp_model.specs.Flat.{Goals, Clauses}
+use Rattle.lp_model.specs.Flat.{Goals}
 use Rattle.lp_model.specs.Flattened.{goals_of, clauses_of}
 use Rattle.lp_gen.specs.declared.fault.GenRefusal.{GenRefusal}
 use Rattle.lp_gen.specs.declared.fault.GenRefusal.TheVariants as refusal
@@ -13,7 +13,7 @@ use Rattle.lp_gen.specs.declared.limits.Look.{Look}
 use Rattle.lp_gen.specs.declared.limits.Look.TheVariants as look
 use Rattle.lp_gen.specs.declared.limits.Source.{Source}
 use Rattle.lp_gen.specs.declared.limits.Source.TheVariants as on
-use Rattle.lp_gen.specs.Limits.{TermCounting, term_counts, Counting, goals_counts, clauses_counts, in_strings, of_strings, in_arguments, of_arguments, in_nesting, of_nesting, of_records, Counts}
+use Rattle.lp_gen.specs.Limits.{TermCounting, Counting, goals_counts, clauses_counts, in_strings, of_strings, in_arguments, of_arguments, in_nesting, of_nesting, of_records, Counts}
 use Rattle.lp_gen.specs.inner.Sizes.{goals_weigh}
 use Rattle.lp_gen.specs.inner.Capturing.{goal_size, clause_size}
 

@@ -11,7 +11,7 @@ use Rattle.lp_code.specs.States.{with_goal}
 use Rattle.lp_code.specs.Written.{nothing_written}
 use Rattle.lp_code.specs.Denote.{from_zero}
 use Rattle.lp_gen.specs.Sources.{ends_list}
-use Rattle.lp_gen.specs.inner.Listing.{Around}
+use Rattle.lp_gen.specs.Steps.{Around}
 use Rattle.lp_gen.specs.inner.Bodies.{pushed, IsShort}
 use Rattle.lp_gen.specs.inner.GoalCode.{quantified, KindCode, numbers, AreRegisters, GoalsCode}
 

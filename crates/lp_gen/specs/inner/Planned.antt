@@ -5,7 +5,7 @@ use Rattle.lp_code.specs.States.{member}
 use Rattle.lp_gen.specs.Sources.{ends_list}
 use Rattle.lp_gen.specs.declared.plan.Assumption.{Assumption}
 use Rattle.lp_gen.specs.declared.tables.Tables.{Tables}
-use Rattle.lp_gen.specs.inner.Listing.{Around}
+use Rattle.lp_gen.specs.Steps.{Around}
 use Rattle.lp_gen.specs.inner.TermLaw.{AllLoose}
 use Rattle.lp_gen.specs.inner.Capturing.{IsSo, IsLevelOf}
 use Rattle.lp_gen.specs.inner.Bodies.{new_level, AllThrough}
@@ -30,6 +30,21 @@ abbrev mutual
   goals_records no_goals = 0
   goals_records (goals g gs) = goal_records g + goals_records gs
 
+-- how many variables are around what follows goals: those of a `sigma` are there up to the end of the block around it
+abbrev mutual
+  pub level_behind : ℕ → Goal → ℕ
+  level_behind d (Atomic t) = d
+  level_behind d Cut = d
+  level_behind d (Either gs hs) = d
+  level_behind d (Exists T gs) = levels_behind (suc d) gs
+  level_behind d (Forall T gs) = d
+  level_behind d (Assume w cs gs) = d
+  level_behind d (Not w gs) = d
+
+  pub levels_behind : ℕ → Goals → ℕ
+  levels_behind d no_goals = d
+  levels_behind d (goals g gs) = levels_behind (level_behind d g) gs
+
 -- what holds of the clauses that goals assume, by the number of their first record and by how many variables are around them
 abbrev mutual
   pub GoalHas : (ℕ → ℕ → Clauses → Type 0) → (q d : ℕ) → Goal → Type 0
@@ -43,7 +58,7 @@ abbrev mutual
 
   pub GoalsHave : (ℕ → ℕ → Clauses → Type 0) → (q d : ℕ) → Goals → Type 0
   GoalsHave D q d no_goals = Unit {0}
-  GoalsHave D q d (goals g gs) = GoalHas D q d g × GoalsHave D (q + goal_records g) d gs
+  GoalsHave D q d (goals g gs) = GoalHas D q d g × GoalsHave D (q + goal_records g) (level_behind d g) gs
 
 -- goals that are written as they stand, where the clauses that they assume are
 abbrev mutual

@@ -1,5 +1,6 @@
 -- The plan of a clause or query while it is made: which parts are due, what assumptions are, and what is still to do for the goals of a part.
-use Rattle.std.specs.Prelude.{◌≡◌, ℕ, suc, ◌+◌, ◌<◌, ◌≤◌, ◌^◌, List, [], ◌∷◌, ◌++◌, map, reverse, length, sum_by, Some, None, slice_get}
+use Rattle.std.specs.Prelude.{◌≡◌, ℕ, suc, ◌+◌, ◌<◌, ◌≤◌, ◌^◌, List, [], ◌∷◌, ◌++◌, map, reverse, length, sum_by, Some, None, slice_get, nat_eq}
+use Rattle.std.specs.List.{IsDistinct}
 use Rattle.std.specs.Borrow.{Bor}
 use Rattle.lp_model.specs.declared.clause.Goal.{Goal}
 use Rattle.lp_model.specs.declared.clause.Clause.{Clause}
@@ -19,7 +20,7 @@ use Rattle.lp_gen.specs.inner.OpenGoals.{BodyStep, goals_steps}
 use Rattle.lp_gen.specs.inner.BodyCode.{Suppositions, step_of, steps_of, next_of, next_all, IsNext, AreNext, count_starts, starts_all}
 use Rattle.lp_gen.specs.Limits.{goals_assume}
 use Rattle.lp_gen.specs.inner.Recorded.{own_count}
-use Rattle.lp_gen.specs.inner.Planned.{goals_records, GoalsHave, AreWritten, DeepGoals, DeepClauses, AreCaptured, AreOnly}
+use Rattle.lp_gen.specs.inner.Planned.{goals_records, levels_behind, GoalsHave, AreWritten, DeepGoals, DeepClauses, AreCaptured, AreOnly}
 
 abbrev pub body_of : Origin → List Goal
 body_of (origin.Clause c) = c.now.body.items
@@ -81,19 +82,20 @@ abbrev pub Extends : {X : Type 0} → (xs ys : List X) → Type 0
 Extends {X} xs ys = (more : List X) × (ys ≡ xs ++ more)
 
 -- the records of each start with just the variables around it that stand in them
+abbrev pub IsCapturing : Nodes → Assumption → Type 0
+IsCapturing b x = AreCaptured x (clauses_of b x.clauses.now) × AreOnly x (clauses_of b x.clauses.now) × IsDistinct nat_eq x.captured.keys
+
 abbrev pub AllCaptured : Nodes → List Assumption → Type 0
-AllCaptured b xs = (n : ℕ) (x : Assumption) → slice_get xs n ≡ Some x → AreCaptured x (clauses_of b x.clauses.now) × AreOnly x (clauses_of b x.clauses.now)
+AllCaptured b xs = (n : ℕ) (x : Assumption) → slice_get xs n ≡ Some x → IsCapturing b x
 
 -- what is still to do for the goals of a part
 pub data Todo : Type 0 where
   due_goals : List Goal → Todo
   due_end : Step → ℕ → Todo
-  due_level : ℕ → Todo
 
 abbrev pub todo_of : Task → Todo
 todo_of (task.Goals gs) = due_goals gs.now
 todo_of (task.End s l) = due_end s l
-todo_of (task.Level l) = due_level l
 
 -- the next one first
 abbrev pub todos : List Task → List Todo
@@ -103,32 +105,27 @@ abbrev pub todo_steps : Nodes → Suppositions → List Todo → List BodyStep
 todo_steps b cl [] = []
 todo_steps b cl (due_goals gs ∷ ts) = goals_steps (goals_of b gs) ++ todo_steps b cl ts
 todo_steps b cl (due_end s l ∷ ts) = step_of b cl s ∷ todo_steps b cl ts
-todo_steps b cl (due_level l ∷ ts) = todo_steps b cl ts
 
 -- the records that are due for it
 abbrev pub todo_records : Nodes → List Todo → ℕ
 todo_records b [] = 0
 todo_records b (due_goals gs ∷ ts) = goals_assume (goals_of b gs) + todo_records b ts
 todo_records b (due_end s l ∷ ts) = todo_records b ts
-todo_records b (due_level l ∷ ts) = todo_records b ts
 
 abbrev pub TodoHave : Nodes → (ℕ → ℕ → Clauses → Type 0) → (q d : ℕ) → List Todo → Type 0
 TodoHave b D q d [] = Unit {0}
-TodoHave b D q d (due_goals gs ∷ ts) = GoalsHave D q d (goals_of b gs) × TodoHave b D (q + goals_records (goals_of b gs)) d ts
+TodoHave b D q d (due_goals gs ∷ ts) = GoalsHave D q d (goals_of b gs) × TodoHave b D (q + goals_records (goals_of b gs)) (levels_behind d (goals_of b gs)) ts
 TodoHave b D q d (due_end s l ∷ ts) = TodoHave b D q l ts
-TodoHave b D q d (due_level l ∷ ts) = TodoHave b D q l ts
 
 abbrev pub TodoDeep : Nodes → List Todo → Type 0
 TodoDeep b [] = Unit {0}
 TodoDeep b (due_goals gs ∷ ts) = DeepGoals (goals_of b gs) × TodoDeep b ts
 TodoDeep b (due_end s l ∷ ts) = TodoDeep b ts
-TodoDeep b (due_level l ∷ ts) = TodoDeep b ts
 
 abbrev pub TodoWritten : Nodes → List Todo → Type 0
 TodoWritten b [] = Unit {0}
 TodoWritten b (due_goals gs ∷ ts) = AreWritten (goals_of b gs) × TodoWritten b ts
 TodoWritten b (due_end s l ∷ ts) = TodoWritten b ts
-TodoWritten b (due_level l ∷ ts) = TodoWritten b ts
 
 -- the clauses of assumptions
 abbrev pub HoldClauses : Nodes → List Assumption → Suppositions → Type 0
@@ -146,7 +143,6 @@ abbrev pub AllEnds : List Todo → Type 0
 AllEnds [] = Unit {0}
 AllEnds (due_goals gs ∷ ts) = AllEnds ts
 AllEnds (due_end s l ∷ ts) = IsEnd s × AllEnds ts
-AllEnds (due_level l ∷ ts) = AllEnds ts
 
 -- goals of which the steps so far are there
 pub record WalkStands (us0 us : List Due) (xs0 xs : List Assumption) (d0 d : ℕ) (gs : List Goal) (steps : List Step) (ts : List Todo) : Type 0 where

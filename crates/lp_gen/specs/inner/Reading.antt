@@ -46,16 +46,3 @@ read_top b (Variable n) = var n
 read_top b (Parameter k) = type_param k
 read_top b (Constructor k parts at) = con k (tys (map (λ p. read_at b at (type_tree b p.0)) parts.now))
 read_top b (Arrow from to) = arrow (read b from) (read b to)
-
--- the two sides of a function's type; of another one `o`
-abbrev pub from_of : Ty → Ty
-from_of (arrow a b) = a
-from_of (var i) = o_type
-from_of (type_param k) = o_type
-from_of (con c ts) = o_type
-
-abbrev pub to_of : Ty → Ty
-to_of (arrow a b) = b
-to_of (var i) = o_type
-to_of (type_param k) = o_type
-to_of (con c ts) = o_type

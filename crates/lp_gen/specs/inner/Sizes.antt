@@ -52,7 +52,7 @@ abbrev pub goal_weighs_at : Goal-F ℕ ℕ → ℕ
 goal_weighs_at (Goal-F.Atom t) = 0
 goal_weighs_at Goal-F.Cut = 0
 goal_weighs_at (Goal-F.Either l r) = 2 + goals_weigh l.items + goals_weigh r.items
-goal_weighs_at (Goal-F.Some T l) = 1 + goals_weigh l.items
+goal_weighs_at (Goal-F.Some T l) = goals_weigh l.items
 goal_weighs_at (Goal-F.All T l) = 1 + goals_weigh l.items
 goal_weighs_at (Goal-F.Assume cs l) = 1 + goals_weigh l.items
 goal_weighs_at (Goal-F.Not l) = 1 + goals_weigh l.items
@@ -66,7 +66,6 @@ goal_weighs = code.fold-Goal ℕ ℕ goal_weighs_at no_weight
 abbrev pub goal_task : PlanTask → ℕ
 goal_task (on_goal.Goals gs) = goals_weigh (map goal_weighs gs.now)
 goal_task (on_goal.End s level) = 1
-goal_task (on_goal.Level level) = 1
 
 abbrev pub goal_work : List PlanTask → ℕ
 goal_work ts = sum_by goal_task ts

@@ -2,7 +2,7 @@
 use Rattle.std.specs.Prelude.{◌≡◌, ◌⊎◌, ℕ, ◌+◌, ◌*◌, ◌<◌, List, length, sum_by}
 use Rattle.lp_gen.specs.declared.emitter.Emitter.{Emitter}
 use Rattle.lp_gen.specs.declared.fault.RecordRefusal.{RecordRefusal}
-use Rattle.lp_gen.specs.Limits.{past}
+use Rattle.lp_gen.specs.Registers.{past}
 use Rattle.lp_gen.specs.inner.Fitting.{IsRefused}
 use Rattle.lp_gen.specs.inner.Pieces.{Piece, type_con, type_arrow, another, pieces}
 use Rattle.lp_gen.specs.inner.Works.{Work}

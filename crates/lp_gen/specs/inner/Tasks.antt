@@ -8,7 +8,8 @@ use Rattle.lp_gen.specs.declared.listing.Lists.{Lists}
 use Rattle.lp_gen.specs.declared.listing.Task.{Task}
 use Rattle.lp_gen.specs.declared.listing.Task.TheVariants as on
 use Rattle.lp_gen.specs.inner.Reading.{read}
-use Rattle.lp_gen.specs.inner.Listing.{Step, plain_step, apply_last, abstract_last, Around, around_of, Listed, Headed, read_function, listed, with_arguments}
+use Rattle.lp_gen.specs.Steps.{Step, apply_last, abstract_last, Around, Listed, Headed, listed}
+use Rattle.lp_gen.specs.inner.Listing.{plain_step, around_of, read_function, with_arguments}
 
 pub record Course : Type 0 where
   pub bound : List Ty

@@ -7,8 +7,7 @@ use Rattle.lp_code.specs.Symbolic.{Tables, Built, variable, held, whole, applied
 use Rattle.lp_code.specs.States.{Home}
 use Rattle.lp_code.specs.Rules.{built_types, stands_in}
 use Rattle.lp_gen.specs.Sources.{IsKnownType, IsKnownAtom}
-use Rattle.lp_gen.specs.inner.Reading.{from_of, to_of}
-use Rattle.lp_gen.specs.inner.Listing.{Seen, Around, at_level, level_in, Listed, Headed}
+use Rattle.lp_gen.specs.Steps.{from_of, to_of, Seen, Around, at_level, level_in, Listed, Headed}
 use Rattle.lp_gen.specs.inner.TermSteps.{stack, steps_built, AreFine}
 
 -- what is read of a function's type, for its arguments: where an abstraction can stand its type, else any

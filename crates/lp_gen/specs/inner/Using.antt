@@ -1,10 +1,10 @@
 -- How much of what an emitter has left a function uses, and where it refuses, that so much is not left.
-use Rattle.std.specs.Prelude.{◌≡◌, ◌⊎◌, ℕ, ◌+◌, ◌<◌, ◌≤◌}
+use Rattle.std.specs.Prelude.{◌≡◌, ◌+◌, ◌<◌, ◌≤◌}
 use Rattle.lp_gen.specs.declared.emitter.Emitter.{Emitter}
 use Rattle.lp_gen.specs.declared.fault.RecordRefusal.{RecordRefusal}
 use Rattle.lp_gen.specs.declared.fault.RecordRefusal.TheVariants as refusal
 use Rattle.lp_gen.specs.Registers.{Amount, both, unset_take}
-use Rattle.lp_gen.specs.inner.Listing.{Around}
+use Rattle.lp_gen.specs.Steps.{Around}
 
 pub record Uses (old new : Emitter) (a : Amount) : Type 0 where
   pub types_are : new.types ≡ old.types + a.types

@@ -11,7 +11,7 @@ use Rattle.lp_base.specs.declared.limit.Limit.TheVariants as limit
 use Rattle.lp_gen.specs.declared.plan.Due.{Due}
 use Rattle.lp_gen.specs.declared.plan.Origin.{Origin}
 use Rattle.lp_gen.specs.inner.Recorded.{own_count}
-use Rattle.lp_gen.specs.inner.Planning.{Todo, due_goals, due_end, due_level, body_of}
+use Rattle.lp_gen.specs.inner.Planning.{Todo, due_goals, due_end, body_of}
 
 -- the variables of `sigma` and `pi` in goals, those of clauses that are assumed not counted
 abbrev mutual
@@ -60,20 +60,17 @@ abbrev pub todo_binds : Nodes → List Todo → ℕ
 todo_binds b [] = 0
 todo_binds b (due_goals gs ∷ ts) = goals_bind (goals_of b gs) + todo_binds b ts
 todo_binds b (due_end s l ∷ ts) = todo_binds b ts
-todo_binds b (due_level l ∷ ts) = todo_binds b ts
 
 abbrev pub TodoFits : Nodes → List Todo → Type 0
 TodoFits b [] = Unit {0}
 TodoFits b (due_goals gs ∷ ts) = GoalsFit (goals_of b gs) × TodoFits b ts
 TodoFits b (due_end s l ∷ ts) = TodoFits b ts
-TodoFits b (due_level l ∷ ts) = TodoFits b ts
 
 -- no end restores more variables
 abbrev pub AllLow : ℕ → List Todo → Type 0
 AllLow n [] = Unit {0}
 AllLow n (due_goals gs ∷ ts) = AllLow n ts
 AllLow n (due_end s l ∷ ts) = (l ≤ n) × AllLow n ts
-AllLow n (due_level l ∷ ts) = (l ≤ n) × AllLow n ts
 
 -- the variables around goals of a record behind its base: never more than have been met of `top` and `total`
 pub record IsLeveled (b : Nodes) (base top total level : ℕ) (ts : List Todo) : Type 0 where

@@ -13,9 +13,8 @@ use Rattle.lp_code.specs.Steps.{Later}
 use Rattle.lp_code.specs.Denote.{run}
 use Rattle.lp_gen.specs.declared.emitter.Emitter.{Emitter}
 use Rattle.lp_gen.specs.Sources.{AreKnownSchemes, types_by, IsKnownType}
-use Rattle.lp_gen.specs.inner.Reading.{from_of, to_of}
+use Rattle.lp_gen.specs.Steps.{from_of, to_of, Around}
 use Rattle.lp_gen.specs.inner.Running.{TypesStand, TermsStand, SameButRegisters, HasRoom}
-use Rattle.lp_gen.specs.inner.Listing.{Around}
 use Rattle.lp_gen.specs.inner.TermSteps.{StandIn}
 use Rattle.lp_gen.specs.inner.Owned.{makes, makes_types, AreStarted, MakesOwn, StaysSet}
 use Rattle.lp_gen.specs.inner.TermLaw.{SameSides, Asks, AsksConstants, Standing, KnownAtoms, AllLoose, IsSeen, with_variables, SameAround, AreSet, Made}

@@ -8,6 +8,7 @@ use Rattle.lp_standard.specs.Positive.{is_positive}
 use Rattle.lp_term.specs.Nodes.{Nodes, tree}
 use Rattle.lp_term.specs.declared.node.TermId.{TermId}
 use Rattle.lp_model.specs.Flatten.{heads_clauses}
+use Rattle.lp_infer.specs.inner.Turns.{turns_of}
 use Rattle.lp_module.specs.Form.{Part, depth, argument_count, widest, IsPart, is_deep, is_wide, is_in_term, is_other, HasPart}
 use Rattle.lp_module.specs.declared.heads.Heads.{Heads}
 use Rattle.lp_module.specs.declared.heads.Heads.TheVariants.{Known, Any}
@@ -135,3 +136,8 @@ pub record Judging (b : Nodes) (heads : Heads) (w : Part) (parts : Parts) (v : V
   pub few : v.deep ≡ false → (p : Part) → Contains left p → p.depth ≤ 2002
   pub inside : (p : Part) → Contains left p → IsPart w p
   pub each : (d : ℕ → Option Scheme) → AreHeads d heads → Judges d w left v
+
+-- the turns that tasks take at most: a part's own parts are deeper, and one that is deeper than 2,002 has none
+abbrev pub turns_left : List Task → ℕ
+turns_left [] = 0
+turns_left (t ∷ ts) = turns_of (2003 - t.depth) + turns_left ts

@@ -10,7 +10,7 @@ use Rattle.lp_sig.specs.Constants.{Written, standard_tree}
 use Rattle.lp_sig.specs.Differing.{IsKnownType}
 use Rattle.lp_sig.specs.Holding.{IsTree, HoldsBodies}
 use Rattle.lp_sig.specs.Knowing.{Knows}
-use Rattle.lp_sig.specs.ModuleFaults.{HasLineCause, IsLineOtherIf}
+use Rattle.lp_sig.specs.ModuleFaults.{HasLineCause, HasLineTypeCause}
 use Rattle.lp_sig.specs.Modules.{constant_names_in}
 use Rattle.lp_sig.specs.Pieces.{spelled}
 use Rattle.lp_sig.specs.Rows.{Row, found}
@@ -74,4 +74,4 @@ TakesOn old new rows more = Takes old.names old.bodies old.constants new.bodies 
 -- why a sentence is refused, where so many names are known before the text, and these sentences are before it in the text
 pub record IsCausedFrom (making : Making) (own : Signature) (text : List ℕ) (said : List (Row Said)) (words : List (List ℕ)) (before : List Declaration) (line : Declaration) (e : ModuleSigFault) : Type 0 where
   pub full : HasLineCause own text (words ++ constant_names_in text before) line e
-  pub other : (defs : List (Row Definition)) (given : List (Row Ty)) (rows : List (Row Written)) → IsTaking making.names making.bodies making.constants said defs given rows words → IsLineOtherIf own text said defs given (rows ++ typed_in text before) line e
+  pub other : (defs : List (Row Definition)) (given : List (Row Ty)) (rows : List (Row Written)) → IsTaking making.names making.bodies making.constants said defs given rows words → HasLineTypeCause own text said defs given (rows ++ typed_in text before) line e

@@ -1,14 +1,15 @@
 use Rattle.lp_gen.proofs.AtomsUsed.{constant_takes, other_atom_takes}
 use Rattle.lp_gen.proofs.Using.{uses_both, uses_same, lacks_first, lacks_then}
 use Rattle.lp_gen.proofs.TypeWorks.{map_length}
-use Rattle.lp_gen.specs.Registers.{atom_takes, all_take, terms_take, call_takes, both, plain_code}
+use Rattle.lp_gen.specs.Registers.{atom_takes, terms_take, call_takes, both, plain_code}
 use Rattle.lp_gen.specs.inner.Using.{Lacks, Uses}
 use Rattle.lp_lemmas.proofs.Results.{passed_up}
 use Rattle.std.proofs.Common.{[], map, length, subst, ◌≡◌, ◌∙◌, ap, sym}
 use Rattle.lp_calculus.specs.Term.{Term}
 use Rattle.lp_term.specs.Nodes.{tree, type_tree}
 use Rattle.lp_term.specs.declared.node.TermId.{TermId}
-use Rattle.lp_gen.specs.inner.Listing.{around_of, constant_function, head_type}
+use Rattle.lp_gen.specs.Steps.{constant_function, head_type}
+use Rattle.lp_gen.specs.inner.Listing.{around_of}
 use Rattle.lp_gen.specs.inner.Written.{ArgumentsWritten}
 use Rattle.lp_gen.proofs.AtomWritten.{constant_goal, term_call_written, other_goal}
 use Rattle.lp_gen.proofs.atoms.put_atom.Goals as goal

@@ -1,9 +1,8 @@
 use Rattle.lp_gen.proofs.CallsUsed.{own_takes, other_takes}
 use Rattle.lp_code.specs.Length.{length_of}
-use Rattle.lp_gen.specs.Limits.{past}
 use Rattle.lp_gen.proofs.Using.{plain_said, no_plain_code, uses_same}
 use Rattle.lp_code.specs.declared.instruction.Instr.TheVariants as instr
-use Rattle.lp_gen.specs.Registers.{call_takes}
+use Rattle.lp_gen.specs.Registers.{past, call_takes}
 use Rattle.lp_gen.specs.inner.Using.{Lacks}
 use Rattle.lp_lemmas.proofs.Results.{passed_up}
 use Rattle.std.proofs.Common.{◌∙◌, ap, sym, ◌≡◌, ◌+◌, ◌*◌, Some, None, length, refl, subst}

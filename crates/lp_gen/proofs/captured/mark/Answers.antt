@@ -23,3 +23,6 @@ returns-then-index-base-clause-found c = λ p x. none_found c.args.base p c.args
 
 pub returns-clause-found : goal.returns-clause-found
 returns-clause-found c = λ p x. level_found c.args.base p c.args.index c.args.levels.now.keys c.insert.new.self.keys c.in_ok-_new.ensures.keys (omega (arith, c.if-index-base.false)) x
+
+pub returns-clause-distinct : goal.returns-clause-distinct
+returns-clause-distinct c = λ d. c.in_ok-_new.ensures.unique

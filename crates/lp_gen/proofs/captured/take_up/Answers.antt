@@ -45,3 +45,6 @@ pub returns-in_ok-push-in-Terms-2-clause-finds : goal.returns-in_ok-push-in-Term
 returns-in_ok-push-in-Terms-2-clause-finds c =
     terms_found c.args.bank.now c.args.base c.args.levels.now.keys c.args.levels.now.keys c.args.work.now.items c.push-in-Terms-2.new.self.items c.args.place c.in-Terms.terms c.in-Some-split_first-2.rest c.in-Some-split_first-2.first.now c.in-Terms.depth c.push-in-Terms.new.self.items
     c.in-Terms.is c.in-Some-split_first-2.ensures.cases.0 c.in_ok-push-in-Terms.ensures.items c.in_ok-push-in-Terms-2.ensures.items
+
+pub returns-in_ok-visit_term-in-Term-clause-distinct : goal.returns-in_ok-visit_term-in-Term-clause-distinct
+returns-in_ok-visit_term-in-Term-clause-distinct c = c.in_ok-visit_term-in-Term.ensures.distinct

@@ -1,4 +1,4 @@
-use Rattle.std.proofs.Common.{◌+◌, subst, sym, arith}
+use Rattle.std.proofs.Common.{◌+◌, subst, arith}
 use Rattle.lp_gen.specs.inner.Capturing.{IsDepth}
 use Rattle.lp_gen.proofs.CapturedBy.{clause_holds}
 use Rattle.lp_gen.proofs.CapturedFrom.{clause_has}

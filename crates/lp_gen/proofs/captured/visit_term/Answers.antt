@@ -1,4 +1,3 @@
-use Rattle.std.proofs.Common.{arith}
 use Rattle.lp_gen.proofs.CapturedBy.{marks_application, bound_index, free_index, under_abs, of_application, other_form}
 use Rattle.lp_gen.specs.declared.captured.Place.TheVariants as on
 use Rattle.lp_gen.proofs.CapturedFrom.{nothing_left, free_found, body_found, application_found}
@@ -55,3 +54,6 @@ returns-in_ok-push-in-App-2-clause-finds c =
 
 pub returns-in_default-clause-finds : goal.returns-in_default-clause-finds
 returns-in_default-clause-finds c = nothing_left c.args.bank.now c.args.base c.args.levels.now.keys c.args.levels.now.keys c.args.work.now.items c.args.work.now.items (on.Term c.args.term c.args.depth)
+
+pub returns-in_ok-mark-in-Index-clause-distinct : goal.returns-in_ok-mark-in-Index-clause-distinct
+returns-in_ok-mark-in-Index-clause-distinct c = c.in_ok-mark-in-Index.ensures.distinct

@@ -9,12 +9,13 @@ use Rattle.lp_gen.specs.inner.Groups.{AreGroups}
 use Rattle.std.specs.Prelude.{take}
 use Rattle.lp_lemmas.proofs.Results.{passed_up}
 use Rattle.lp_model.specs.Flattened.{goals_of, clauses_of}
-use Rattle.lp_gen.specs.Limits.{goals_assume, clauses_records, counts_of_clauses, ClausesPass}
+use Rattle.lp_gen.specs.Limits.{goals_assume, clauses_records, counts_of_clauses, ClausesFull, ClausesPass}
 use Rattle.lp_gen.specs.Contract.{ReadyClauses}
-use Rattle.lp_gen.proofs.LimitsTold.{told_by_plan}
+use Rattle.lp_gen.proofs.LimitsTold.{told_by_plan, told_first}
+use Rattle.lp_gen.proofs.AddFits.{one_fits_more, one_full_clause}
 use Rattle.lp_gen.proofs.Ready.{ready_clauses_told}
 use Rattle.lp_gen.proofs.PlanDone.{take_next}
-use Rattle.lp_gen.proofs.RecordsCounted.{one_clause_more, clause_counted}
+use Rattle.lp_gen.proofs.RecordsCounted.{one_clause_more, clause_counted, clauses_before}
 use Rattle.lp_gen.proofs.GroupPut.{clause_written}
 use Rattle.lp_gen.proofs.GroupsDenote.{groups_denote}
 use Rattle.lp_gen.proofs.codes.generate.Goals as goal
@@ -26,6 +27,7 @@ loop-at-init c =
       subst (All (λ (r : Record). sum_by length_of r.code.items < 2 ^ 32)) (sym e) (All-nil (λ (r : Record). sum_by length_of r.code.items < 2 ^ 32)),
       e,
       ap length e,
+      λ x. x,
     )
 
 pub loop-at-preserved : goal.loop-at-preserved
@@ -41,6 +43,13 @@ loop-at-preserved c =
           let at = slice_get_read cs (length cs) c.loop-at.at c.index-clauses-at.result refl (omega (arith, c.loop-at-test.true)) c.index-clauses-at.is in
           let t = ap (λ l. clauses_records (clauses_of c.args.bank.now l)) (take_next c.loop-at.at cs c.index-clauses-at.result at) ∙ one_clause_more c.args.bank.now (take c.loop-at.at cs) c.index-clauses-at.result in
           omega (arith, n, i, t)),
+      (let at = slice_get_read cs (length cs) c.loop-at.at c.index-clauses-at.result refl (omega (arith, c.loop-at-test.true)) c.index-clauses-at.is in
+          let i = c.loop-at.invariant.3 in
+          let n = clauses_before c.args.bank.now cs c.loop-at.at c.index-clauses-at.result at in
+          let w = c.in_ok-check_limits.ensures.within in
+          let few = w.3 in
+          one_fits_more c.args.bank.now c.args.constants.now cs c.loop-at.at c.index-clauses-at.result (take_next c.loop-at.at cs c.index-clauses-at.result at) c.loop-at.invariant.4
+          (c.in_ok-add.ensures.fits (omega (arith, i, n, few)))),
     )
 
 pub returns-clause-denotes : goal.returns-clause-denotes
@@ -69,6 +78,22 @@ returns-clause-few c =
     let few = w.3 in
     omega (arith, i, t, few)
 
+pub returns-clause-within : goal.returns-clause-within
+returns-clause-within c =
+    let b = c.args.bank.now in
+    let ds = c.args.constants.now in
+    let cs = c.args.clauses.now in
+    let last : c.loop-at.at ≡ length cs = omega (arith, c.loop-at-test.false, c.loop-at.auto.at-end) in
+    (c.in_ok-check_limits.ensures.within, subst (λ l. ClausesFull b ds l → ⊥) (take_all c.loop-at.at cs (omega (arith, last))) c.loop-at.invariant.4)
+
+pub returns-in_err-check_limits-clause-cause : goal.returns-in_err-check_limits-clause-cause
+returns-in_err-check_limits-clause-cause c =
+    let b = c.args.bank.now in
+    let ds = c.args.constants.now in
+    let cs = c.args.clauses.now in
+    let e = c.in_err-check_limits.field-0.0 in
+    passed_up c.from_residual.result e (ClausesPass b ds cs) c.from_residual.ensures.1 (told_first (counts_of_clauses (clauses_of b cs)) (ClausesFull b ds cs) e c.in_err-check_limits.ensures.cause)
+
 pub returns-in_err-add-clause-cause : goal.returns-in_err-add-clause-cause
 returns-in_err-add-clause-cause c =
     let b = c.args.bank.now in
@@ -77,8 +102,11 @@ returns-in_err-add-clause-cause c =
     let n = clause_counted b cs c.loop-at.at c.index-clauses-at.result at in
     let w = c.in_ok-check_limits.ensures.within in
     let few = w.3 in
+    let i = c.loop-at.invariant.3 in
+    let m = clauses_before b cs c.loop-at.at c.index-clauses-at.result at in
     passed_up c.from_residual-in_err-add.result c.in_err-add.field-0.0 (ClausesPass b c.args.constants.now cs) c.from_residual-in_err-add.ensures.1
-    (told_by_plan (counts_of_clauses (clauses_of b cs)) (suc (goals_assume (goals_of b c.index-clauses-at.result.body.items))) 65535 c.in_err-add.field-0.0 w (omega (arith, n, few)) c.in_err-add.ensures.cause)
+    (told_by_plan (counts_of_clauses (clauses_of b cs)) (ClausesFull b c.args.constants.now cs) (suc (goals_assume (goals_of b c.index-clauses-at.result.body.items))) 65535 c.in_err-add.field-0.0 w (omega (arith, n, few)) c.in_err-add.ensures.cause
+    (λ is. one_full_clause b c.args.constants.now cs c.loop-at.at c.index-clauses-at.result at (c.in_err-add.ensures.full (omega (arith, i, m, few)) is)))
 
 pub returns-in_err-check_limits-clause-ready : goal.returns-in_err-check_limits-clause-ready
 returns-in_err-check_limits-clause-ready c =
@@ -86,7 +114,7 @@ returns-in_err-check_limits-clause-ready c =
     let ds = c.args.constants.now in
     let cs = c.args.clauses.now in
     let e = c.in_err-check_limits.field-0.0 in
-    passed_up c.from_residual.result e (ReadyClauses b ds cs) c.from_residual.ensures.1 (λ κ few all. ready_clauses_told κ b ds cs e few all c.in_err-check_limits.ensures.cause)
+    passed_up c.from_residual.result e (ReadyClauses b ds cs) c.from_residual.ensures.1 (λ κ few all. ready_clauses_told κ b ds cs e few all (told_first (counts_of_clauses (clauses_of b cs)) (ClausesFull b ds cs) e c.in_err-check_limits.ensures.cause))
 
 pub returns-in_err-add-clause-ready : goal.returns-in_err-add-clause-ready
 returns-in_err-add-clause-ready c =
@@ -100,4 +128,6 @@ returns-in_err-add-clause-ready c =
     let most = w.3 in
     passed_up c.from_residual-in_err-add.result e (ReadyClauses b ds cs) c.from_residual-in_err-add.ensures.1
     (λ κ few all. ready_clauses_told κ b ds cs e few all
-    (told_by_plan (counts_of_clauses (clauses_of b cs)) (suc (goals_assume (goals_of b c.index-clauses-at.result.body.items))) 65535 e w (omega (arith, n, most)) c.in_err-add.ensures.cause))
+    (told_by_plan (counts_of_clauses (clauses_of b cs)) (ClausesFull b ds cs) (suc (goals_assume (goals_of b c.index-clauses-at.result.body.items))) 65535 e w (omega (arith, n, most)) c.in_err-add.ensures.cause
+    (λ is. let i = c.loop-at.invariant.3 in let m = clauses_before b cs c.loop-at.at c.index-clauses-at.result at in
+    one_full_clause b ds cs c.loop-at.at c.index-clauses-at.result at (c.in_err-add.ensures.full (omega (arith, i, m, most)) is))))

@@ -1,4 +1,4 @@
-use Rattle.lp_gen.specs.inner.Listing.{abstract_last}
+use Rattle.lp_gen.specs.Steps.{abstract_last}
 use Rattle.std.proofs.Common.{refl}
 use Rattle.lp_code.specs.declared.instruction.Instr.TheVariants as instr
 use Rattle.lp_gen.proofs.Using.{uses_both, lacks_first, lacks_then, term_made, no_term_register, no_term_code}

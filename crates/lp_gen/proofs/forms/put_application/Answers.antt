@@ -1,9 +1,8 @@
-use Rattle.lp_gen.specs.Limits.{past}
-use Rattle.lp_gen.specs.inner.Listing.{apply_last}
+use Rattle.lp_gen.specs.Steps.{apply_last}
 use Rattle.std.proofs.Common.{refl, ◌+◌, ◌*◌, length}
 use Rattle.lp_code.specs.declared.instruction.Instr.TheVariants as instr
 use Rattle.lp_gen.proofs.Using.{term_made, no_term_register, no_term_code}
-use Rattle.lp_gen.specs.Registers.{step_takes}
+use Rattle.lp_gen.specs.Registers.{past, step_takes}
 use Rattle.lp_gen.specs.inner.Using.{Lacks}
 use Rattle.lp_lemmas.proofs.Results.{passed_up}
 use Rattle.lp_gen.proofs.TermPut.{application_put}

@@ -1,12 +1,11 @@
 use Rattle.lp_gen.proofs.TypeWorks.{map_length}
-use Rattle.lp_gen.specs.Limits.{past}
-use Rattle.lp_gen.specs.inner.Listing.{make_constant}
+use Rattle.lp_gen.specs.Steps.{make_constant}
 use Rattle.lp_code.specs.declared.instruction.Instr.TheVariants as instr
 use Rattle.lp_gen.proofs.Using.{uses_both, lacks_first, lacks_then, term_made, no_term_register, no_term_code}
-use Rattle.lp_gen.specs.Registers.{step_takes, term_code}
+use Rattle.lp_gen.specs.Registers.{past, step_takes, term_code}
 use Rattle.lp_gen.specs.inner.Using.{Lacks}
 use Rattle.lp_lemmas.proofs.Results.{passed_up}
-use Rattle.std.proofs.Common.{map, refl, ◌≡◌, ◌∙◌, ◌+◌, ◌*◌, length, ap, sym}
+use Rattle.std.proofs.Common.{map, ◌≡◌, ◌∙◌, ◌+◌, ◌*◌, length, ap, sym}
 use Rattle.lp_term.specs.Nodes.{type_tree}
 use Rattle.lp_gen.proofs.TermPut.{constant_put}
 use Rattle.lp_gen.proofs.forms.put_constant.Goals as goal

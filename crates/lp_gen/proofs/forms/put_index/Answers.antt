@@ -1,9 +1,8 @@
 use Rattle.lp_gen.proofs.LimitsLeft.{past_within, past_over}
-use Rattle.lp_gen.specs.Limits.{past}
-use Rattle.lp_gen.specs.inner.Listing.{make_index}
+use Rattle.lp_gen.specs.Steps.{make_index}
 use Rattle.lp_code.specs.declared.instruction.Instr.TheVariants as instr
 use Rattle.lp_gen.proofs.Using.{uses_both, lacks_first, lacks_then, term_made, no_term_register, no_term_code}
-use Rattle.lp_gen.specs.Registers.{step_takes, term_code, type_takes}
+use Rattle.lp_gen.specs.Registers.{past, step_takes, term_code}
 use Rattle.lp_gen.specs.inner.Using.{Lacks, room, for_misfits}
 use Rattle.lp_lemmas.proofs.Results.{passed_up}
 use Rattle.std.proofs.Common.{◌<◌, ◌≡◌, ◌∙◌, ◌++◌, ◌∷◌, [], ap, arith, refl, sym}

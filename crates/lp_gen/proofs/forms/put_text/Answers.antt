@@ -1,4 +1,4 @@
-use Rattle.lp_gen.specs.inner.Listing.{make_text}
+use Rattle.lp_gen.specs.Steps.{make_text}
 use Rattle.lp_code.specs.declared.instruction.Instr.TheVariants as instr
 use Rattle.lp_gen.proofs.Using.{term_made, no_term_register, no_term_code}
 use Rattle.lp_gen.specs.Registers.{step_takes, text_length}

@@ -1,8 +1,7 @@
-use Rattle.lp_gen.specs.Limits.{past}
 use Rattle.std.proofs.Common.{refl, ◌+◌, ◌*◌, length}
 use Rattle.lp_gen.proofs.Using.{plain_said, no_plain_code}
 use Rattle.lp_code.specs.declared.instruction.Instr.TheVariants as instr
-use Rattle.lp_gen.specs.Registers.{plain_code}
+use Rattle.lp_gen.specs.Registers.{past, plain_code}
 use Rattle.lp_gen.specs.inner.Using.{Lacks}
 use Rattle.lp_lemmas.proofs.Results.{passed_up}
 use Rattle.lp_gen.proofs.GoalPut.{constant_got}

@@ -1,5 +1,4 @@
-use Rattle.lp_gen.specs.Limits.{past}
-use Rattle.std.proofs.Common.{refl, ◌+◌, ◌*◌, length}
+use Rattle.std.proofs.Common.{refl, ◌+◌, length}
 use Rattle.lp_gen.proofs.Using.{plain_said, no_plain_code}
 use Rattle.lp_code.specs.declared.instruction.Instr.TheVariants as instr
 use Rattle.lp_gen.specs.Registers.{plain_code}

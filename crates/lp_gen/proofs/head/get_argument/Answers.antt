@@ -1,8 +1,8 @@
 use Rattle.lp_gen.proofs.HeadUsed.{first_takes, first_left, constant_got_takes, other_by_node, built_takes_here}
 use Rattle.lp_gen.proofs.Using.{uses_both, uses_same, lacks_first, lacks_then}
 use Rattle.lp_gen.proofs.TypeWorks.{map_length}
-use Rattle.lp_gen.specs.Limits.{past}
-use Rattle.lp_gen.specs.Registers.{argument_takes, behind_argument, plain_code}
+use Rattle.lp_gen.specs.Steps.{constant_function, first_place}
+use Rattle.lp_gen.specs.Registers.{past, argument_takes, behind_argument, plain_code}
 use Rattle.lp_gen.specs.inner.Using.{Lacks}
 use Rattle.lp_lemmas.proofs.Results.{passed_up}
 use Rattle.std.proofs.Common.{◌≡◌, ◌∙◌, sym, subst, arith, w64, to_z, of_z, ◌+◌, ◌*◌, Some, length, map, ap}
@@ -10,8 +10,8 @@ use Rattle.std.proofs.lemmas.Int.{to_z-of_z}
 use Rattle.lp_term.specs.Nodes.{tree, type_tree}
 use Rattle.lp_gen.specs.inner.Reading.{read}
 use Rattle.lp_gen.specs.inner.Saying.{IntegerGot}
-use Rattle.lp_gen.specs.inner.Listing.{around_of, constant_function}
-use Rattle.lp_gen.specs.inner.Heading.{ArgumentGot, first_place}
+use Rattle.lp_gen.specs.inner.Listing.{around_of}
+use Rattle.lp_gen.specs.inner.Heading.{ArgumentGot}
 use Rattle.lp_gen.proofs.GoalPut.{text_cut}
 use Rattle.lp_gen.proofs.ArgumentGot.{integer_argument, text_argument, term_argument}
 use Rattle.lp_gen.proofs.HeadNodes.{first_argument_of, constant_node_argument}

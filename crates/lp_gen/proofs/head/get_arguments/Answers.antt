@@ -9,8 +9,9 @@ use Rattle.std.specs.Prelude.{slice_index_or}
 use Rattle.std.proofs.lemmas.List.{take_all}
 use Rattle.lp_term.specs.Nodes.{tree}
 use Rattle.lp_term.specs.declared.node.TermId.{TermId}
-use Rattle.lp_gen.specs.inner.Reading.{read, from_of}
-use Rattle.lp_gen.specs.inner.Listing.{around_of, constant_function, head_type, read_function}
+use Rattle.lp_gen.specs.Steps.{from_of, constant_function, head_type}
+use Rattle.lp_gen.specs.inner.Reading.{read}
+use Rattle.lp_gen.specs.inner.Listing.{around_of, read_function}
 use Rattle.lp_gen.specs.inner.Heading.{ArgumentsGot}
 use Rattle.lp_gen.proofs.HeadGot.{no_head_arguments}
 use Rattle.lp_gen.proofs.HeadNodes.{index_or, argument_at_place}

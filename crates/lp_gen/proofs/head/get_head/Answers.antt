@@ -8,7 +8,8 @@ use Rattle.lp_lemmas.proofs.Results.{passed_up}
 use Rattle.std.proofs.Common.{[], map, length, subst, ◌≡◌, ◌∙◌, ap, sym}
 use Rattle.lp_term.specs.Nodes.{tree}
 use Rattle.lp_term.specs.declared.node.TermId.{TermId}
-use Rattle.lp_gen.specs.inner.Listing.{around_of, constant_function, head_type}
+use Rattle.lp_gen.specs.Steps.{constant_function, head_type}
+use Rattle.lp_gen.specs.inner.Listing.{around_of}
 use Rattle.lp_gen.specs.inner.Heading.{ArgumentsGot}
 use Rattle.lp_gen.proofs.HeadNodes.{constant_head, other_head}
 use Rattle.lp_gen.proofs.head.get_head.Goals as goal

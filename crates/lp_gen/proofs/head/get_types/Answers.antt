@@ -1,10 +1,9 @@
 use Rattle.lp_gen.proofs.HeadUsed.{types_use, types_at_lack, type_matched, type_unmatched, type_has_no_place}
 use Rattle.lp_gen.proofs.Using.{uses_nothing, lacks_first}
-use Rattle.lp_gen.specs.Limits.{past}
-use Rattle.lp_gen.specs.Registers.{head_types_take, plain_code}
+use Rattle.lp_gen.specs.Registers.{past, head_types_take, plain_code}
 use Rattle.lp_gen.specs.inner.Using.{Lacks, Uses}
 use Rattle.lp_lemmas.proofs.Results.{passed_up}
-use Rattle.std.proofs.Common.{map, arith, subst, take}
+use Rattle.std.proofs.Common.{map, arith, subst}
 use Rattle.std.specs.Prelude.{slice_index_or}
 use Rattle.std.proofs.lemmas.List.{take_all}
 use Rattle.lp_term.specs.Nodes.{type_tree}

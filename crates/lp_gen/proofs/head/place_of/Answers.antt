@@ -1,6 +1,6 @@
 use Rattle.std.proofs.Common.{◌∙◌, ap, length}
 use Rattle.lp_gen.specs.inner.Listing.{around_of}
-use Rattle.lp_gen.specs.inner.Heading.{first_place}
+use Rattle.lp_gen.specs.Steps.{first_place}
 use Rattle.lp_gen.proofs.HeadNodes.{other_place}
 use Rattle.lp_gen.proofs.head.place_of.Goals as goal
 

@@ -1,4 +1,4 @@
-use Rattle.std.proofs.Common.{refl, inl, inr, ⊎_elim, arith}
+use Rattle.std.proofs.Common.{refl}
 use Rattle.lp_gen.proofs.Worked.{fact_is_within, query_is_within}
 use Rattle.lp_gen.proofs.laws.worked_records_take.Goals as goal
 

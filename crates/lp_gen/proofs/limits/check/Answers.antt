@@ -1,7 +1,7 @@
-use Rattle.std.proofs.Common.{◌≡◌, ◌∙◌, [], ap, sym, subst, arith, refl}
+use Rattle.std.proofs.Common.{◌≡◌, ◌∙◌, [], ap, arith, refl}
 use Rattle.std.proofs.lemmas.List.{nil_from_length}
 use Rattle.lp_lemmas.proofs.Results.{passed_up}
-use Rattle.lp_gen.specs.inner.Limiting.{counting_of, IsOver, IsMet, source_counts, counts_left}
+use Rattle.lp_gen.specs.inner.Limiting.{counting_of, IsOver, source_counts, counts_left}
 use Rattle.lp_gen.proofs.Works.{one_more}
 use Rattle.lp_gen.proofs.LimitsLeft.{met_on, over_on}
 use Rattle.lp_gen.proofs.limits.check.Goals as goal

@@ -16,14 +16,14 @@ pub returns-in_err-check-clause-cause : goal.returns-in_err-check-clause-cause
 returns-in_err-check-clause-cause c =
     let x = counts_of_source c.args.bank.now c.args.source in
     let e = c.in_err-check.field-0.0 in
-    passed_up c.from_residual.result e (IsTold x) c.from_residual.ensures.1 (strings_told x e c.in_err-check.ensures.cause)
+    passed_up c.from_residual.result e (IsTold x ⊥) c.from_residual.ensures.1 (strings_told x e c.in_err-check.ensures.cause)
 
 pub returns-in_err-check-2-clause-cause : goal.returns-in_err-check-2-clause-cause
 returns-in_err-check-2-clause-cause c =
     let x = counts_of_source c.args.bank.now c.args.source in
     let e = c.in_err-check-2.field-0.0 in
     let s = c.in_ok-check.ensures.within in
-    passed_up c.from_residual-in_err-check-2.result e (IsTold x) c.from_residual-in_err-check-2.ensures.1 (arguments_told x e (omega (arith, s)) c.in_err-check-2.ensures.cause)
+    passed_up c.from_residual-in_err-check-2.result e (IsTold x ⊥) c.from_residual-in_err-check-2.ensures.1 (arguments_told x e (omega (arith, s)) c.in_err-check-2.ensures.cause)
 
 pub returns-in_err-check-3-clause-cause : goal.returns-in_err-check-3-clause-cause
 returns-in_err-check-3-clause-cause c =
@@ -31,7 +31,7 @@ returns-in_err-check-3-clause-cause c =
     let e = c.in_err-check-3.field-0.0 in
     let s = c.in_ok-check.ensures.within in
     let a = c.in_ok-check-2.ensures.within in
-    passed_up c.from_residual-in_err-check-3.result e (IsTold x) c.from_residual-in_err-check-3.ensures.1 (nesting_told x e (omega (arith, s)) (omega (arith, a)) c.in_err-check-3.ensures.cause)
+    passed_up c.from_residual-in_err-check-3.result e (IsTold x ⊥) c.from_residual-in_err-check-3.ensures.1 (nesting_told x e (omega (arith, s)) (omega (arith, a)) c.in_err-check-3.ensures.cause)
 
 pub returns-in_err-check-4-clause-cause : goal.returns-in_err-check-4-clause-cause
 returns-in_err-check-4-clause-cause c =
@@ -40,4 +40,4 @@ returns-in_err-check-4-clause-cause c =
     let s = c.in_ok-check.ensures.within in
     let a = c.in_ok-check-2.ensures.within in
     let n = c.in_ok-check-3.ensures.within in
-    passed_up c.from_residual-in_err-check-4.result e (IsTold x) c.from_residual-in_err-check-4.ensures.1 (records_told x e (omega (arith, s)) (omega (arith, a)) (omega (arith, n)) c.in_err-check-4.ensures.cause)
+    passed_up c.from_residual-in_err-check-4.result e (IsTold x ⊥) c.from_residual-in_err-check-4.ensures.1 (records_told x e (omega (arith, s)) (omega (arith, a)) (omega (arith, n)) c.in_err-check-4.ensures.cause)

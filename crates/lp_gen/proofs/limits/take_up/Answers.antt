@@ -1,7 +1,7 @@
-use Rattle.std.proofs.Common.{◌∙◌, ap, sym, subst, refl}
+use Rattle.std.proofs.Common.{refl}
 use Rattle.lp_lemmas.proofs.Results.{passed_up}
 use Rattle.lp_gen.specs.inner.Limiting.{counting_of, IsOver, source_counts}
-use Rattle.lp_gen.proofs.LimitsLeft.{clauses_first, goals_first, terms_first, term_same, first_clause_over, first_goal_over, goals_end_over, term_over, clauses_none, goals_none, terms_none}
+use Rattle.lp_gen.proofs.LimitsLeft.{clauses_first, goals_first, terms_first, term_same, first_clause_over, first_goal_over, term_over}
 use Rattle.lp_gen.proofs.limits.take_up.Goals as goal
 
 pub returns-in_ok-visit_clause-in-Clauses-clause-met : goal.returns-in_ok-visit_clause-in-Clauses-clause-met

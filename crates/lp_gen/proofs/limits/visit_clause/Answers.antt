@@ -1,4 +1,4 @@
-use Rattle.std.proofs.Common.{◌∙◌, ◌+◌, ap, sym, subst}
+use Rattle.std.proofs.Common.{◌∙◌, ◌+◌, ap, subst}
 use Rattle.lp_lemmas.proofs.Results.{passed_up}
 use Rattle.lp_model.specs.Flat.{clauses, no_clauses}
 use Rattle.lp_model.specs.Flattened.{clause_of}

@@ -1,9 +1,9 @@
-use Rattle.std.proofs.Common.{◌∙◌, ◌+◌, map, ap, sym, subst, arith}
+use Rattle.std.proofs.Common.{◌∙◌, ◌+◌, map, ap, subst}
 use Rattle.lp_calculus.specs.Term.{text, constant}
 use Rattle.lp_term.specs.Nodes.{type_tree}
 use Rattle.lp_lemmas.proofs.Results.{passed_up}
 use Rattle.lp_gen.specs.inner.Limiting.{nodes_of, IsOver, TermsOver}
-use Rattle.lp_gen.proofs.LimitsLeft.{Over, mapped_twice, application_met, application_less, head_over, part_over, abstraction_met, abstraction_over, body_over, leaf_met, leaf_over, atom_over, other_met, other_over}
+use Rattle.lp_gen.proofs.LimitsLeft.{Over, mapped_twice, application_met, application_less, head_over, part_over, abstraction_met, abstraction_over, body_over, leaf_met, leaf_over, atom_over}
 use Rattle.lp_gen.proofs.limits.visit_term.Goals as goal
 
 pub returns-in_ok-take-in-Text-2-clause-met : goal.returns-in_ok-take-in-Text-2-clause-met

@@ -1,6 +1,7 @@
 use Rattle.std.proofs.Common.{map, reverse, refl, sym, subst}
 use Rattle.lp_gen.specs.inner.Reading.{read}
-use Rattle.lp_gen.specs.inner.Listing.{around_of, index_listed, node_listed}
+use Rattle.lp_gen.specs.Steps.{index_listed}
+use Rattle.lp_gen.specs.inner.Listing.{around_of, node_listed}
 use Rattle.lp_gen.specs.inner.Tasks.{Adds}
 use Rattle.lp_gen.proofs.Courses.{other_listed}
 use Rattle.lp_gen.proofs.listing.leaf.Goals as goal

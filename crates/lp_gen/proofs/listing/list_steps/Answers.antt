@@ -1,7 +1,7 @@
 use Rattle.std.proofs.Common.{◌∙◌, sym, arith}
 use Rattle.std.proofs.lemmas.List.{nil_from_length}
 use Rattle.lp_gen.specs.declared.listing.Task.TheVariants as on
-use Rattle.lp_gen.specs.inner.Listing.{constant_function}
+use Rattle.lp_gen.specs.Steps.{constant_function}
 use Rattle.lp_gen.specs.inner.Tasks.{course}
 use Rattle.lp_gen.proofs.Courses.{done_popped, task_begins, tasks_done}
 use Rattle.lp_gen.proofs.listing.list_steps.Goals as goal

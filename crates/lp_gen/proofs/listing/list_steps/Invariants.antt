@@ -1,7 +1,8 @@
 use Rattle.std.proofs.Common.{◌≡◌, []}
 use Rattle.lp_gen.specs.declared.listing.Task.TheVariants as on
 use Rattle.lp_gen.specs.inner.Sizes.{term_work}
-use Rattle.lp_gen.specs.inner.Listing.{around_of, constant_function}
+use Rattle.lp_gen.specs.Steps.{constant_function}
+use Rattle.lp_gen.specs.inner.Listing.{around_of}
 use Rattle.lp_gen.specs.inner.Tasks.{course, act, done}
 use Rattle.lp_gen.proofs.listing.list_steps.Given as goal
 

@@ -1,5 +1,5 @@
 use Rattle.std.proofs.Common.{◌≡◌, sym, subst}
-use Rattle.lp_gen.specs.inner.Listing.{constant_function}
+use Rattle.lp_gen.specs.Steps.{constant_function}
 use Rattle.lp_gen.specs.inner.Tasks.{course, act, done}
 use Rattle.lp_gen.proofs.Courses.{applies_task, abstracts_task}
 use Rattle.lp_gen.proofs.listing.take_up.Goals as goal

@@ -1,6 +1,7 @@
 use Rattle.std.proofs.Common.{◌∙◌, ap, sym, length, map, reverse}
 use Rattle.lp_gen.specs.inner.Reading.{read}
-use Rattle.lp_gen.specs.inner.Listing.{around_of, constant_function, term_function, head_type}
+use Rattle.lp_gen.specs.Steps.{constant_function, head_type}
+use Rattle.lp_gen.specs.inner.Listing.{around_of, term_function}
 use Rattle.lp_gen.proofs.Courses.{other_head}
 use Rattle.lp_gen.proofs.listing.type_of_head.Goals as goal
 

@@ -2,7 +2,8 @@ use Rattle.std.proofs.Common.{◌∙◌, ◌<◌, map, reverse, length, ap, arit
 use Rattle.lp_term.specs.Nodes.{tree}
 use Rattle.lp_gen.specs.declared.types.TypeView.TheVariants.{Proposition}
 use Rattle.lp_gen.specs.inner.Reading.{read}
-use Rattle.lp_gen.specs.inner.Listing.{around_of, constant_function, head_type}
+use Rattle.lp_gen.specs.Steps.{constant_function, head_type}
+use Rattle.lp_gen.specs.inner.Listing.{around_of}
 use Rattle.lp_gen.specs.inner.Tasks.{course}
 use Rattle.lp_gen.proofs.Works.{has_args, visits_spine}
 use Rattle.lp_gen.proofs.Courses.{visits_abstraction, visits_application, visits_leaf, bound_pushed}

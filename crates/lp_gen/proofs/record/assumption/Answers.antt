@@ -4,7 +4,7 @@ use Rattle.std.proofs.lemmas.Option.{slice_get_read, slice_get_past}
 use Rattle.lp_gen.specs.declared.plan.Assumption.{Assumption}
 use Rattle.lp_gen.specs.inner.Listing.{around_of}
 use Rattle.lp_gen.specs.inner.GoalCode.{AreRegisters}
-use Rattle.std.specs.Prelude.{[], ◌∷◌, nat_eq}
+use Rattle.std.specs.Prelude.{[], ◌∷◌, nat_eq, slice_get}
 use Rattle.std.specs.List.{IsDistinct}
 use Rattle.indexmap.specs.IndexMap.{index_map_len}
 use Rattle.lp_gen.specs.declared.plan.Step.TheVariants as on
@@ -13,6 +13,11 @@ use Rattle.std.proofs.lemmas.List.Elements.{All-nil, All-cons}
 use Rattle.lp_gen.proofs.StartsPut.{starts_set}
 use Rattle.lp_gen.proofs.BodyFacts.{starts_stay}
 use Rattle.lp_gen.proofs.AssumptionPut.{no_assumption, same_assumption}
+use Rattle.lp_lemmas.proofs.Results.{passed_up}
+use Rattle.lp_gen.specs.inner.Fitting.{IsRefused}
+use Rattle.lp_gen.specs.inner.BodyUsing.{assumption_takes}
+use Rattle.lp_gen.proofs.BodyParts.{registers_length, zero_is}
+use Rattle.lp_gen.proofs.BodyUsed.{assumption_size, many_misfit}
 use Rattle.lp_gen.proofs.record.assumption.Goals as goal
 
 pub returns-then-number-tables-clause-made : goal.returns-then-number-tables-clause-made
@@ -68,3 +73,37 @@ returns-clause-short c =
     let same = ap (λ (x : Assumption). x.count) c.index-tables-number.is in
     let count = c.in_ok-records.ensures.count in
     lt-ltb (length c.in_ok-records.records.items) 65536 (omega (arith, few, same, count))
+
+pub returns-then-number-tables-clause-takes : goal.returns-then-number-tables-clause-takes
+returns-then-number-tables-clause-takes c =
+    sym (ap (assumption_takes c.args.tables.type_vars (around_of c.args.tables.bank.now c.args.environment.now)) (slice_get_past c.args.tables.assumptions.now c.args.number
+    (omega (arith, c.if-number-tables.true))))
+
+pub returns-clause-takes : goal.returns-clause-takes
+returns-clause-takes c =
+    let xs = c.args.tables.assumptions.now in
+    let a = around_of c.args.tables.bank.now c.args.environment.now in
+    let x = c.index-tables-number.result in
+    let low : c.args.number < length xs = omega (arith, c.if-number-tables.false) in
+    let found = slice_get_read xs (length xs) c.args.number x refl low c.index-tables-number.is in
+    let ls = c.as_slice-levels.result.now in
+    let many : length c.in_ok-registers.registers.items ≡ length (levels_found a x.captured.keys) =
+    registers_length a (levels_found a ls) c.in_ok-registers.registers.items (c.in_ok-registers.ensures.registers c.args.tables.bank.now)
+    ∙ ap (λ l. length (levels_found a l)) (c.as_slice-levels.ensures.keys ∙ ap (λ (y : Assumption). y.captured.keys) (sym c.index-tables-number.is)) in
+    let count : length c.in_ok-records.records.items ≡ x.count = c.in_ok-records.ensures.count ∙ ap (λ (y : Assumption). y.count) (sym c.index-tables-number.is) in
+    assumption_size c.args.tables.type_vars (length (levels_found a x.captured.keys)) x.count (length c.in_ok-types.types.items) (length c.in_ok-registers.registers.items)
+    (length c.in_ok-records.records.items) (zero_is c.args.tables.type_vars c.in_ok-types.types.items c.in_ok-types.ensures) many count
+    ∙ sym (ap (assumption_takes c.args.tables.type_vars a) found)
+
+pub returns-in_err-registers-clause-many : goal.returns-in_err-registers-clause-many
+returns-in_err-registers-clause-many c =
+    let xs = c.args.tables.assumptions.now in
+    let a = around_of c.args.tables.bank.now c.args.environment.now in
+    let x = c.index-tables-number.result in
+    let low : c.args.number < length xs = omega (arith, c.if-number-tables.false) in
+    let found = slice_get_read xs (length xs) c.args.number x refl low c.index-tables-number.is in
+    let v = c.args.tables.type_vars in
+    let e = c.in_err-registers.field-0.0 in
+    passed_up c.from_residual.result e (IsRefused (0 < (assumption_takes v a (slice_get xs c.args.number)).misfits)) c.from_residual.ensures.1
+    (subst (λ o. IsRefused (0 < (assumption_takes v a o).misfits) e) (sym found) (many_misfit v (length (levels_found a x.captured.keys)) e
+    (subst (λ l. IsRefused (65535 < length (levels_found a l)) e) (c.as_slice-levels.ensures.keys ∙ ap (λ (y : Assumption). y.captured.keys) (sym c.index-tables-number.is)) (c.in_err-registers.ensures.many c.args.tables.bank.now))))

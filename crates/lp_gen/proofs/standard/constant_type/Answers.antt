@@ -1,5 +1,6 @@
 use Rattle.std.proofs.Common.{◌∙◌, ap, length}
-use Rattle.lp_gen.specs.inner.Listing.{constant_function, term_function}
+use Rattle.lp_gen.specs.Steps.{constant_function}
+use Rattle.lp_gen.specs.inner.Listing.{term_function}
 use Rattle.lp_gen.proofs.Courses.{other_function}
 use Rattle.lp_gen.proofs.standard.constant_type.Goals as goal
 

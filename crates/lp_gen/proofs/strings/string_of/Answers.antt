@@ -1,6 +1,6 @@
 use Rattle.std.proofs.lemmas.List.{length-take}
-use Rattle.std.proofs.Common.{◌∙◌, ap, length, ◌≡◌, arith}
-use Rattle.std.specs.Prelude.{nat_lt, take, min}
+use Rattle.std.proofs.Common.{◌∙◌, ap, length, arith}
+use Rattle.std.specs.Prelude.{nat_lt, take}
 use Rattle.lp_gen.proofs.ShortStrings.{cut_short, cut_whole}
 use Rattle.lp_gen.proofs.strings.string_of.Goals as goal
 

@@ -1,6 +1,6 @@
 use Rattle.lp_gen.proofs.StepsUsed.{first_length, push_length}
 use Rattle.lp_gen.specs.inner.Reading.{read}
-use Rattle.lp_gen.specs.inner.Listing.{abstract_last}
+use Rattle.lp_gen.specs.Steps.{abstract_last}
 use Rattle.lp_gen.specs.Registers.{step_takes}
 use Rattle.lp_gen.specs.inner.Using.{Lacks}
 use Rattle.lp_lemmas.proofs.Results.{passed_up}

@@ -1,9 +1,9 @@
 use Rattle.lp_gen.proofs.StepsUsed.{last_length, first_length, push_length}
-use Rattle.lp_gen.specs.inner.Listing.{apply_last}
+use Rattle.lp_gen.specs.Steps.{apply_last}
 use Rattle.lp_gen.specs.Registers.{step_takes}
 use Rattle.lp_gen.specs.inner.Using.{Lacks, Uses}
 use Rattle.lp_lemmas.proofs.Results.{passed_up}
-use Rattle.std.proofs.Common.{◌∙◌, ap, ◌≡◌, ◌-◌, length, sym, subst, arith}
+use Rattle.std.proofs.Common.{◌∙◌, ap, ◌≡◌, length, subst, arith}
 use Rattle.std.specs.Prelude.{slice_index_or}
 use Rattle.lp_gen.proofs.StepPut.{apply_then}
 use Rattle.lp_gen.proofs.term_steps.apply.Goals as goal

@@ -2,7 +2,7 @@ use Rattle.lp_gen.proofs.Using.{uses_both, lacks_first, lacks_then, plain_said, 
 use Rattle.lp_code.specs.declared.instruction.Instr.TheVariants as instr
 use Rattle.std.proofs.Common.{refl}
 use Rattle.lp_term.specs.Nodes.{type_tree}
-use Rattle.lp_gen.specs.inner.Listing.{make_variable}
+use Rattle.lp_gen.specs.Steps.{make_variable}
 use Rattle.lp_gen.specs.Registers.{step_takes, plain_code}
 use Rattle.lp_gen.specs.inner.Using.{Lacks}
 use Rattle.lp_lemmas.proofs.Results.{passed_up}

@@ -10,8 +10,9 @@ use Rattle.std.proofs.lemmas.Iterator.{YieldsList-from_slice}
 use Rattle.std.proofs.lemmas.Iterator.Consumers.{YieldsList-end, YieldsList-from_copied, YieldsList-turn, YieldsList-so_far}
 use Rattle.lp_term.specs.Nodes.{tree}
 use Rattle.lp_term.specs.declared.node.TermId.{TermId}
-use Rattle.lp_gen.specs.inner.Reading.{read, from_of}
-use Rattle.lp_gen.specs.inner.Listing.{around_of, constant_function, head_type, read_function}
+use Rattle.lp_gen.specs.Steps.{from_of, constant_function, head_type}
+use Rattle.lp_gen.specs.inner.Reading.{read}
+use Rattle.lp_gen.specs.inner.Listing.{around_of, read_function}
 use Rattle.lp_gen.specs.inner.Written.{ArgumentsWritten, left_by}
 use Rattle.lp_gen.proofs.TermWritten.{no_arguments, next_argument_written}
 use Rattle.lp_gen.proofs.terms.put_arguments.Goals as goal

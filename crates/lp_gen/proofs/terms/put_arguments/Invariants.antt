@@ -1,6 +1,7 @@
 use Rattle.std.proofs.Common.{◌≡◌, [], map, length}
 use Rattle.lp_term.specs.Nodes.{tree}
-use Rattle.lp_gen.specs.inner.Listing.{around_of, constant_function, head_type, read_function}
+use Rattle.lp_gen.specs.Steps.{constant_function, head_type}
+use Rattle.lp_gen.specs.inner.Listing.{around_of, read_function}
 use Rattle.lp_gen.specs.inner.Written.{ArgumentsWritten, left_by}
 use Rattle.lp_gen.specs.Registers.{terms_take, behind_terms}
 use Rattle.lp_gen.specs.inner.Using.{Uses}

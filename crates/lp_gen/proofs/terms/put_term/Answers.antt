@@ -7,7 +7,8 @@ use Rattle.lp_lemmas.proofs.Results.{passed_up}
 use Rattle.std.proofs.Common.{subst, ◌≡◌, ◌∙◌, [], map, ap, sym}
 use Rattle.lp_term.specs.Nodes.{tree}
 use Rattle.lp_gen.specs.inner.Reading.{read}
-use Rattle.lp_gen.specs.inner.Listing.{constant_function, around_of, plain_step, listed}
+use Rattle.lp_gen.specs.Steps.{constant_function, listed}
+use Rattle.lp_gen.specs.inner.Listing.{around_of, plain_step}
 use Rattle.lp_gen.specs.inner.TermSteps.{TermOfSteps}
 use Rattle.lp_gen.proofs.TermWritten.{term_written}
 use Rattle.lp_gen.proofs.terms.put_term.Goals as goal

@@ -1,6 +1,7 @@
 use Rattle.std.proofs.Common.{◌∙◌, ap, refl, sym, arith}
 use Rattle.std.specs.Prelude.{option_map}
-use Rattle.lp_gen.specs.inner.Listing.{around_of, seen, set_level}
+use Rattle.lp_gen.specs.Steps.{set_level}
+use Rattle.lp_gen.specs.inner.Listing.{around_of, seen}
 use Rattle.lp_lemmas.proofs.Results.{passed_up}
 use Rattle.lp_gen.specs.Registers.{made_takes, unset_take}
 use Rattle.lp_gen.specs.inner.Using.{Lacks}

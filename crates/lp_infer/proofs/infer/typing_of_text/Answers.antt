@@ -13,4 +13,4 @@ returns-clause-typed c =
     IfOk-weaker c.typed.result _ _ (λ found h. h c.args.raw.now (subst (LookedUp c.args.signature.now c.args.source.now c.args.raw.now.nodes.items c.args.raw.now.root) c.in-Some.is c.in_ok-text.ensures)) c.typed.ensures.typed
 
 pub typed-requires : goal.typed-requires
-typed-requires c = (subst (LookedUp c.args.signature.now c.args.source.now c.args.raw.now.nodes.items c.args.raw.now.root) c.in-Some.is c.in_ok-text.ensures).known
+typed-requires c = (c.args.raw.now, subst (LookedUp c.args.signature.now c.args.source.now c.args.raw.now.nodes.items c.args.raw.now.root) c.in-Some.is c.in_ok-text.ensures)

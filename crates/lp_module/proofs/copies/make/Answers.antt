@@ -163,3 +163,13 @@ returns-in_err-at-clause-refused c =
 
 pub finish-requires : goal.finish-requires
 finish-requires c = c.in_ok-leave-in-Ended.ensures.made c.copies.invariant.2.sofar
+
+pub leave-requires-clause-some : goal.leave-requires-clause-some
+leave-requires-clause-some c = λ e. never_empty c.args.modules.now c.args.root c.args.totals.now.items c.args.uses.now.items
+    c.requires.uses c.requires.plan.0 c.requires.plan.1 c.copies.copying c.go_on.new.self c.copies.making c.copies.around.items c.copies.invariant.2
+    c.copies.invariant.1 e
+
+pub leave-requires-in-Ended-clause-some : goal.leave-requires-in-Ended-clause-some
+leave-requires-in-Ended-clause-some c = λ e. never_empty c.args.modules.now c.args.root c.args.totals.now.items c.args.uses.now.items
+    c.requires.uses c.requires.plan.0 c.requires.plan.1 c.copies.copying c.go_on.new.self c.copies.making c.copies.around.items c.copies.invariant.2
+    c.copies.invariant.1 e

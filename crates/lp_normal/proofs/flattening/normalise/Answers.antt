@@ -1,4 +1,4 @@
-use Rattle.std.proofs.Common.{◌≡◌, ◌∙◌, arith, None}
+use Rattle.std.proofs.Common.{◌≡◌, ◌∙◌, arith, None, sym, ap, true, false}
 use Rattle.lp_lemmas.proofs.Results.{passed_up}
 use Rattle.lp_model.specs.Readings.{formula_of}
 use Rattle.lp_normal.specs.Making.{these_clauses}
@@ -7,6 +7,7 @@ use Rattle.lp_normal.proofs.Bounds.{new_clauses}
 use Rattle.lp_normal.proofs.Turnings.{flatten_comes}
 use Rattle.lp_normal.specs.Counted.{HasManyClauses, IsOver}
 use Rattle.lp_normal.proofs.Counts.{new_clauses_met, made_count, over_then}
+use Rattle.lp_normal.specs.inner.Kinds.{are_goals, is_assumed}
 use Rattle.lp_normal.proofs.flattening.normalise.Goals as goal
 
 pub run-requires-clause-inner : goal.run-requires-clause-inner
@@ -14,11 +15,11 @@ run-requires-clause-inner c =
     let e = c.in_ok-list.ensures in
     new_clauses c.form.new.bank c.in_ok-list.list c.in_ok-id.id None e.assumed e.done e.waiting e.around tt c.in_ok-id.ensures.within
 
-pub returns-in-Clauses-clause-within : goal.returns-in-Clauses-clause-within
-returns-in-Clauses-clause-within c = rw c.in-Clauses.is at c.in_ok-clauses.ensures.within
+pub returns-clause-within : goal.returns-clause-within
+returns-clause-within c = rw c.in-Clauses.is at c.in_ok-clauses.ensures.within
 
-pub returns-in-Clauses-clause-flattened : goal.returns-in-Clauses-clause-flattened
-returns-in-Clauses-clause-flattened c = λ n d flat later e x.
+pub returns-clause-flattened : goal.returns-clause-flattened
+returns-clause-flattened c = λ n d flat later e x.
     let l = c.in_ok-list.ensures in
     let h = flatten_comes 1000000 d c.form.new.bank n (formula_of c.args.bank.now c.args.formula) flat c.in_ok-id.id c.in_ok-list.list
     c.in_ok-id.ensures.form e l.type_vars l.assumed l.done l.waiting l.around in
@@ -39,8 +40,8 @@ returns-in_err-clauses-clause-limit c =
     (flatten_comes 1000000 d c.form.new.bank n (formula_of c.args.bank.now c.args.formula) flat c.in_ok-id.id c.in_ok-list.list
     c.in_ok-id.ensures.form e l.type_vars l.assumed l.done l.waiting l.around)) c.in_err-clauses.ensures.over)
 
-pub returns-in-Clauses-clause-few : goal.returns-in-Clauses-clause-few
-returns-in-Clauses-clause-few c = λ n d flat e more.
+pub returns-clause-few : goal.returns-clause-few
+returns-clause-few c = λ n d flat e more.
     let b = c.run.new.bank in
     let l = c.in_ok-list.ensures in
     let h = flatten_comes 1000000 d c.form.new.bank n (formula_of c.args.bank.now c.args.formula) flat c.in_ok-id.id c.in_ok-list.list
@@ -48,3 +49,6 @@ returns-in-Clauses-clause-few c = λ n d flat e more.
     let k = rw c.in-Clauses.is at (c.in_ok-clauses.ensures.made (these_clauses flat) h) in
     let m = rw c.in-Clauses.is at (c.in_ok-clauses.ensures.few b) in
     absurd (omega (arith, more, m, made_count b (Made.Clauses c.in-Clauses.clauses) (these_clauses flat) k))
+
+pub unreachable-requires : goal.unreachable-requires
+unreachable-requires c = let no : true ≡ false = sym (ap are_goals c.in-Goals.is) ∙ c.in_ok-clauses.ensures.kind ∙ ap is_assumed c.in_ok-list.ensures.assumed in cc

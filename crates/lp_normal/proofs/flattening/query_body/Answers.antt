@@ -1,4 +1,4 @@
-use Rattle.std.proofs.Common.{◌≡◌, ◌∙◌, refl, arith}
+use Rattle.std.proofs.Common.{◌≡◌, ◌∙◌, refl, arith, sym, ap, true, false}
 use Rattle.lp_lemmas.proofs.Results.{passed_up}
 use Rattle.lp_term.specs.Nodes.{tree}
 use Rattle.lp_normal.specs.Making.{these_goals}
@@ -7,6 +7,7 @@ use Rattle.lp_normal.proofs.Bounds.{new_list}
 use Rattle.lp_normal.proofs.Turnings.{query_comes}
 use Rattle.lp_normal.specs.Counted.{AssumesManyClauses, IsOver}
 use Rattle.lp_normal.proofs.Counts.{new_met, made_count, over_then}
+use Rattle.lp_normal.specs.inner.Kinds.{are_goals}
 use Rattle.lp_normal.proofs.flattening.query_body.Goals as goal
 
 pub run-requires-clause-inner : goal.run-requires-clause-inner
@@ -15,11 +16,11 @@ run-requires-clause-inner c =
     new_list c.form.new.bank c.in_ok-list.list (record { formula = c.in_ok-formula.formula; level = 0 }) 0 e.opened e.done e.waiting e.level
     (record { formula = c.in_ok-formula.ensures.within; outside = omega arith })
 
-pub returns-in-Goals-clause-within : goal.returns-in-Goals-clause-within
-returns-in-Goals-clause-within c = rw c.in-Goals.is at c.in_ok-goals.ensures.within
+pub returns-clause-within : goal.returns-clause-within
+returns-clause-within c = rw c.in-Goals.is at c.in_ok-goals.ensures.within
 
-pub returns-in-Goals-clause-flattened : goal.returns-in-Goals-clause-flattened
-returns-in-Goals-clause-flattened c = λ n d flat later e x.
+pub returns-clause-flattened : goal.returns-clause-flattened
+returns-clause-flattened c = λ n d flat later e x.
     let l = c.in_ok-list.ensures in
     let h = query_comes 1000000 d c.form.new.bank n (tree c.args.bank.now c.args.query.now.formula.0) flat
     (record { formula = c.in_ok-formula.formula; level = 0 }) c.in_ok-list.list refl c.in_ok-formula.ensures.form e l.opened l.done l.waiting
@@ -42,8 +43,8 @@ returns-in_err-goals-clause-limit c =
     (record { formula = c.in_ok-formula.formula; level = 0 }) c.in_ok-list.list refl c.in_ok-formula.ensures.form e l.opened l.done l.waiting
     l.level)) c.in_err-goals.ensures.over)
 
-pub returns-in-Goals-clause-few : goal.returns-in-Goals-clause-few
-returns-in-Goals-clause-few c = λ n d flat e more.
+pub returns-clause-few : goal.returns-clause-few
+returns-clause-few c = λ n d flat e more.
     let b = c.run.new.bank in
     let l = c.in_ok-list.ensures in
     let h = query_comes 1000000 d c.form.new.bank n (tree c.args.bank.now c.args.query.now.formula.0) flat
@@ -52,3 +53,6 @@ returns-in-Goals-clause-few c = λ n d flat e more.
     let k = rw c.in-Goals.is at (c.in_ok-goals.ensures.made (these_goals flat) h) in
     let m = rw c.in-Goals.is at (c.in_ok-goals.ensures.few b) in
     absurd (omega (arith, more, m, made_count b (Made.Goals c.in-Goals.goals) (these_goals flat) k))
+
+pub unreachable-requires : goal.unreachable-requires
+unreachable-requires c = let no : false ≡ true = sym (ap are_goals c.in-Clauses.is) ∙ c.in_ok-goals.ensures.kind in cc

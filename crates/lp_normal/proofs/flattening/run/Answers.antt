@@ -1,5 +1,5 @@
 use Rattle.lp_base.specs.declared.limits.TheConstants.{MAX_CLAUSES}
-use Rattle.std.proofs.Common.{◌<◌, ◌⊎◌, ap, arith, subst, sym, []}
+use Rattle.std.proofs.Common.{◌<◌, ◌⊎◌, ap, arith, subst, sym, [], refl, reverse}
 use Rattle.lp_lemmas.proofs.Results.{passed_up}
 use Rattle.lp_term.proofs.Trees.{extends_same, extends-trans}
 use Rattle.lp_normal.specs.Within.{IsFrameIn}
@@ -8,6 +8,7 @@ use Rattle.lp_normal.specs.Counted.{IsOver}
 use Rattle.lp_normal.specs.inner.Met.{IsMade, frames_met, move_met, Passes}
 use Rattle.lp_normal.proofs.Bounds.{All-empty}
 use Rattle.lp_normal.proofs.Counts.{over_then, count_falls}
+use Rattle.lp_normal.specs.inner.Kinds.{is_in_goals, IsNested}
 use Rattle.lp_normal.proofs.flattening.run.Goals as goal
 
 pub clauses-init : goal.clauses-init
@@ -18,6 +19,7 @@ clauses-init c =
       frames = All-empty (IsFrameIn b) c.new-frames.result.items c.new-frames.ensures.items;
       inner = c.requires.inner;
       comes = λ whole h. subst (λ z. InnerComesTo b c.args.first z whole) (sym c.new-frames.ensures.items) h;
+      kind = subst (λ z. IsNested (is_in_goals c.args.first) (is_in_goals c.args.first) (reverse z)) (sym c.new-frames.ensures.items) refl;
       met = λ k. omega (arith, c.requires.empty k, ap (frames_met k) c.new-frames.ensures.items);
       few = omega arith;
     }
@@ -30,6 +32,7 @@ clauses-preserved c =
       frames = e.frames;
       inner = rw c.in-On.is at e.within;
       comes = λ whole h. rw c.in-On.is at (e.comes whole (c.clauses.invariant.comes whole h));
+      kind = rw c.in-On.is at (e.kind (is_in_goals c.args.first) c.clauses.invariant.kind);
       met = λ b. rw c.in-On.is at (e.met c.clauses.invariant.met b);
       few = e.few c.clauses.invariant.few;
     }
@@ -58,3 +61,6 @@ clauses-smaller c =
     let e = c.in_ok-next.ensures in
     let l = subst (λ m. IsMade m ⊎ (c.clauses.count < c.until_clause.new.count)) c.in-On.is e.later in
     count_falls MAX_CLAUSES c.clauses.count c.until_clause.new.count (e.few c.clauses.invariant.few) l
+
+pub returns-in-Done-clause-kind : goal.returns-in-Done-clause-kind
+returns-in-Done-clause-kind c = rw c.in-Done.is at (c.in_ok-next.ensures.kind (is_in_goals c.args.first) c.clauses.invariant.kind)

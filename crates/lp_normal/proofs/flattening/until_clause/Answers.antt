@@ -14,6 +14,7 @@ moves-init c = record {
   frames = c.requires.frames;
   inner = c.requires.inner;
   comes = λ whole h. h;
+  kind = λ k h. h;
   met = λ m. m;
   count = refl;
   before = refl;
@@ -27,6 +28,7 @@ moves-preserved c =
       frames = e.frames;
       inner = rw c.in-On.is at e.within;
       comes = λ whole h. rw c.in-On.is at (e.comes whole (c.moves.invariant.comes whole h));
+      kind = λ k h. rw c.in-On.is at (e.kind k (c.moves.invariant.kind k h));
       met = λ m b. rw c.in-On.is at (e.met b (c.moves.invariant.met m b));
       count = c.if-count-before.false ∙ c.moves.invariant.before;
       before = c.moves.invariant.before;
@@ -87,3 +89,9 @@ returns-in-Done-clause-few c = λ h. c.in_ok-next.ensures.few (omega (arith, h, 
 
 pub returns-in-Done-clause-later : goal.returns-in-Done-clause-later
 returns-in-Done-clause-later c = inl tt
+
+pub returns-then-count-before-clause-kind : goal.returns-then-count-before-clause-kind
+returns-then-count-before-clause-kind c = λ k h. rw c.in-On.is at (c.in_ok-next.ensures.kind k (c.moves.invariant.kind k h))
+
+pub returns-in-Done-clause-kind : goal.returns-in-Done-clause-kind
+returns-in-Done-clause-kind c = λ k h. rw c.in-Done.is at (c.in_ok-next.ensures.kind k (c.moves.invariant.kind k h))

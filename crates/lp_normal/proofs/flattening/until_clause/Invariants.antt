@@ -1,8 +1,9 @@
-use Rattle.std.proofs.Common.{◌≡◌, ◌+◌}
+use Rattle.std.proofs.Common.{◌≡◌, ◌+◌, Bool, reverse}
 use Rattle.std.specs.Prelude.{All}
 use Rattle.lp_term.specs.Nodes.{Nodes, Extends}
 use Rattle.lp_normal.specs.Within.{IsFrameIn, IsInnerIn}
 use Rattle.lp_normal.specs.Making.{Flat, InnerComesTo}
+use Rattle.lp_normal.specs.inner.Kinds.{is_in_goals, IsNested}
 use Rattle.lp_normal.specs.inner.Met.{inner_met, frames_met}
 use Rattle.lp_normal.specs.inner.Work.{inner_work, frames_work}
 use Rattle.lp_normal.proofs.flattening.until_clause.Given as goal
@@ -13,6 +14,7 @@ invariant-moves l = record {
   frames : All (IsFrameIn l.bank) l.frames.items;
   inner : IsInnerIn l.bank l.inner;
   comes : (whole : Flat) → InnerComesTo l.fn.bank l.fn.first l.fn.frames.items whole → InnerComesTo l.bank l.inner l.frames.items whole;
+  kind : (k : Bool) → IsNested k (is_in_goals l.fn.first) (reverse l.fn.frames.items) → IsNested k (is_in_goals l.inner) (reverse l.frames.items);
   met : ((b : Nodes) → inner_met b l.fn.first + frames_met b l.fn.frames.items ≡ l.fn.count) → (b : Nodes) → inner_met b l.inner + frames_met b l.frames.items ≡ l.count;
   count : l.count ≡ l.fn.count;
   before : l.before ≡ l.fn.count;

@@ -9,6 +9,7 @@ use Rattle.lp_normal.proofs.Counts.{new_clauses_met}
 use Rattle.lp_term.proofs.Trees.{extends-trans}
 use Rattle.lp_normal.specs.inner.Work.{weight}
 use Rattle.lp_normal.proofs.Works.{new_clauses_work, lighter, shift_weight}
+use Rattle.lp_normal.specs.inner.Kinds.{is_assumed}
 use Rattle.lp_normal.proofs.step.assume.Goals as goal
 
 pub returns-clause-comes : goal.returns-clause-comes
@@ -46,3 +47,6 @@ returns-clause-less c = λ d x.
       raised,
       ap weight (y.same_terms c.args.goal.0 c.requires.goal),
     )
+
+pub returns-clause-kind : goal.returns-clause-kind
+returns-clause-kind c = ap is_assumed c.in_ok-inner.ensures.assumed

@@ -4,6 +4,7 @@ use Rattle.lp_normal.specs.declared.frame.Frame.{Frame}
 use Rattle.lp_normal.proofs.Bounds.{All-pushed}
 use Rattle.lp_normal.proofs.ClauseSteps.{scope_list, head_comes}
 use Rattle.lp_normal.proofs.Counts.{new_met, frames_pushed}
+use Rattle.lp_normal.proofs.Nested.{nested_pushed}
 use Rattle.lp_normal.proofs.step.clause_body.Goals as goal
 
 pub returns-clause-frames : goal.returns-clause-frames
@@ -37,3 +38,6 @@ returns-clause-met c = λ b.
       frames_pushed b c.push.new.self.items c.args.frames.now.items
           (Frame.Body c.args.list c.in_ok-scope.scope.vars c.args.head) c.in_ok-push.ensures.items,
     )
+
+pub returns-clause-kind : goal.returns-clause-kind
+returns-clause-kind c = λ k h. nested_pushed k c.args.frames.now.items c.push.new.self.items (Frame.Body c.args.list c.in_ok-scope.scope.vars c.args.head) c.in_ok-push.ensures.items h

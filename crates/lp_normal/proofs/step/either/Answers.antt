@@ -7,6 +7,7 @@ use Rattle.lp_standard.specs.Connectives.{connective_of}
 use Rattle.lp_standard.specs.Connectives as connective
 use Rattle.lp_normal.proofs.Works.{new_work, frames_work_pushed, lighter}
 use Rattle.lp_normal.specs.inner.Work.{weight}
+use Rattle.lp_normal.proofs.Nested.{nested_pushed}
 use Rattle.lp_normal.proofs.step.either.Goals as goal
 
 pub returns-clause-comes : goal.returns-clause-comes
@@ -40,3 +41,6 @@ returns-clause-less c = λ d x.
       ap weight (x.same_terms c.args.left.0 c.requires.left),
       ap weight (x.same_terms c.args.right.0 c.requires.right),
     )
+
+pub returns-clause-kind : goal.returns-clause-kind
+returns-clause-kind c = λ k h. nested_pushed k c.args.frames.now.items c.push.new.self.items (Frame.Left c.args.list (record { formula = c.args.right; level = c.args.next.level })) c.in_ok-push.ensures.items h

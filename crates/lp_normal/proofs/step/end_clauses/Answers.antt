@@ -6,6 +6,7 @@ use Rattle.lp_normal.specs.declared.frame.Frame.{Frame}
 use Rattle.lp_normal.proofs.Counts.{new_met, frames_pushed}
 use Rattle.lp_normal.specs.inner.Work.{assumed_work}
 use Rattle.lp_normal.proofs.Works.{new_work, frames_work_pushed}
+use Rattle.lp_normal.proofs.Nested.{nested_pushed, nested_outermost, nested_assumed}
 use Rattle.lp_normal.proofs.step.end_clauses.Goals as goal
 
 pub returns-in-None-clause-comes : goal.returns-in-None-clause-comes
@@ -50,3 +51,11 @@ returns-clause-less c = λ d.
       new_work d c.in_ok-inner-in-Some.inner c.in-Some.assumed.goal e.waiting,
       frames_work_pushed d c.push.new.self.items c.args.frames.now.items (Frame.Assume c.in-Some.assumed.outer c.args.list.done) c.in_ok-push-in-Some.ensures.items,
     )
+
+pub returns-in-None-clause-kind : goal.returns-in-None-clause-kind
+returns-in-None-clause-kind c = λ k h. nested_outermost k c.args.list.assumed (reverse c.args.frames.now.items) c.in-None.is h
+
+pub returns-clause-kind : goal.returns-clause-kind
+returns-clause-kind c = λ k h.
+    nested_pushed k c.args.frames.now.items c.push.new.self.items (Frame.Assume c.in-Some.assumed.outer c.args.list.done) c.in_ok-push-in-Some.ensures.items
+    (nested_assumed k c.args.list.assumed c.in-Some.assumed (reverse c.args.frames.now.items) c.in-Some.is h)

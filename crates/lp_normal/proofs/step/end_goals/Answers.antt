@@ -1,4 +1,4 @@
-use Rattle.std.proofs.Common.{arith, ap}
+use Rattle.std.proofs.Common.{arith, ap, true}
 use Rattle.lp_term.proofs.Moves.{nothing}
 use Rattle.lp_normal.specs.Within.{IsFrameIn}
 use Rattle.lp_normal.proofs.Bounds.{All-last, all_popped}
@@ -7,6 +7,7 @@ use Rattle.lp_normal.specs.inner.Met.{frames_met}
 use Rattle.lp_normal.proofs.Counts.{frames_pushed}
 use Rattle.lp_normal.specs.inner.Work.{frames_work}
 use Rattle.lp_normal.proofs.Works.{frames_work_pushed}
+use Rattle.lp_normal.proofs.Nested.{nested_popped, nested_last}
 use Rattle.lp_normal.proofs.step.end_goals.Goals as goal
 
 pub returns-in_default-clause-comes : goal.returns-in_default-clause-comes
@@ -51,3 +52,9 @@ returns-in_default-clause-less c = λ d. omega (arith, ap (frames_work d) (all_p
 pub returns-clause-less : goal.returns-clause-less
 returns-clause-less c = λ d.
     omega (arith, c.in_ok-inner.ensures.less d, frames_work_pushed d c.args.frames.now.items c.pop.new.self.items c.in-Some.frame c.in-Some.ensures.items)
+
+pub returns-in_default-clause-kind : goal.returns-in_default-clause-kind
+returns-in_default-clause-kind c = λ k h. nested_last k true c.args.frames.now.items (nothing c.args.frames.now.items (omega (arith, c.in_default.ensures.cases.0, c.args.frames.now.ok))) h
+
+pub returns-clause-kind : goal.returns-clause-kind
+returns-clause-kind c = λ k h. c.in_ok-inner.ensures.kind k (nested_popped k true c.args.frames.now.items c.pop.new.self.items c.in-Some.frame c.in-Some.ensures.items h)

@@ -12,6 +12,7 @@ use Rattle.lp_normal.specs.declared.frame.Frame.{Frame}
 use Rattle.lp_normal.proofs.Counts.{new_met, frames_pushed}
 use Rattle.lp_term.proofs.Trees.{extends-trans}
 use Rattle.lp_normal.proofs.Works.{new_work, frames_work_pushed, body_lighter}
+use Rattle.lp_normal.proofs.Nested.{nested_pushed}
 use Rattle.lp_normal.proofs.step.for_all.Goals as goal
 
 pub returns-clause-comes : goal.returns-clause-comes
@@ -48,3 +49,6 @@ returns-clause-less c = λ d x.
       frames_work_pushed d c.push.new.self.items c.args.frames.now.items (Frame.All c.args.list c.args.bound) c.in_ok-push.ensures.items,
       body_lighter (tree d c.in_ok-formula.formula.0) (tree d c.args.next.formula.0) u c.raise_from-by.result (connective.ForAll (type_tree c.args.bank.now c.args.bound.0) (body_of u)) form body (λ n l. l),
     )
+
+pub returns-clause-kind : goal.returns-clause-kind
+returns-clause-kind c = λ k h. nested_pushed k c.args.frames.now.items c.push.new.self.items (Frame.All c.args.list c.args.bound) c.in_ok-push.ensures.items h

@@ -7,6 +7,7 @@ use Rattle.lp_standard.specs.Connectives.{connective_of}
 use Rattle.lp_standard.specs.Connectives as connective
 use Rattle.lp_normal.specs.inner.Work.{weight}
 use Rattle.lp_normal.proofs.Works.{new_work, frames_work_pushed, lighter}
+use Rattle.lp_normal.proofs.Nested.{nested_pushed}
 use Rattle.lp_normal.proofs.step.negated.Goals as goal
 
 pub returns-clause-comes : goal.returns-clause-comes
@@ -30,3 +31,6 @@ returns-clause-less c = λ d x.
       lighter (tree d c.args.next.formula.0) (connective.Not (tree c.args.bank.now c.args.on.0)) form,
       ap weight (x.same_terms c.args.on.0 c.requires.on),
     )
+
+pub returns-clause-kind : goal.returns-clause-kind
+returns-clause-kind c = λ k h. nested_pushed k c.args.frames.now.items c.push.new.self.items (Frame.Not c.args.list) c.in_ok-push.ensures.items h

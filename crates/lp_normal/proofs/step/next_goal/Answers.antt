@@ -1,4 +1,4 @@
-use Rattle.std.proofs.Common.{reverse, arith, refl, ◌∙◌, ap}
+use Rattle.std.proofs.Common.{reverse, arith, refl, ◌∙◌, ap, sym, subst}
 use Rattle.lp_model.specs.declared.clause.Goal as code
 use Rattle.lp_model.specs.Flat.{Cut}
 use Rattle.lp_normal.specs.Within.{IsFrameIn}
@@ -13,6 +13,7 @@ use Rattle.lp_standard.specs.Connectives.{connective_of}
 use Rattle.lp_standard.specs.Connectives as connective
 use Rattle.lp_normal.specs.inner.Work.{weight}
 use Rattle.lp_normal.proofs.Works.{same_work, two_more_work, lighter}
+use Rattle.lp_normal.specs.inner.Kinds.{IsNested}
 use Rattle.lp_normal.proofs.step.next_goal.Goals as goal
 
 pub returns-in-True-clause-comes : goal.returns-in-True-clause-comes
@@ -124,3 +125,6 @@ returns-in_ok-made-in-Not-clause-less c = λ d x. c.in_ok-made-in-Not.ensures.le
 
 pub returns-in_ok-made-in-Atomic-clause-less : goal.returns-in_ok-made-in-Atomic-clause-less
 returns-in_ok-made-in-Atomic-clause-less c = λ d x. omega (arith, c.in_ok-made-in-Atomic.ensures.less d x)
+
+pub returns-in_ok-made-in-Implies-clause-kind : goal.returns-in_ok-made-in-Implies-clause-kind
+returns-in_ok-made-in-Implies-clause-kind c = λ k h. subst (λ z. IsNested k z (reverse c.args.frames.now.items)) (sym c.in_ok-made-in-Implies.ensures.kind) h

@@ -1,4 +1,4 @@
-use Rattle.std.proofs.Common.{◌∙◌, ap, sym, reverse, arith, ◌≡◌, ◌+◌, inl, inr}
+use Rattle.std.proofs.Common.{◌∙◌, ap, sym, reverse, arith, ◌≡◌, ◌+◌, inl, inr, subst}
 use Rattle.lp_term.specs.Nodes.{tree, type_tree}
 use Rattle.lp_standard.specs.Connectives.{body_of, connective_of}
 use Rattle.lp_standard.specs.Connectives as connective
@@ -16,6 +16,7 @@ use Rattle.lp_term.proofs.Trees.{extends-trans}
 use Rattle.lp_normal.specs.inner.Work.{weight}
 use Rattle.lp_normal.specs.declared.clauses.Part.{Part}
 use Rattle.lp_normal.proofs.Works.{two_parts_work, lighter}
+use Rattle.lp_normal.specs.inner.Kinds.{is_assumed, IsNested}
 use Rattle.lp_normal.proofs.step.next_part.Goals as goal
 
 pub returns-in_ok-made-in-And-clause-within : goal.returns-in_ok-made-in-And-clause-within
@@ -143,3 +144,12 @@ returns-in_ok-made-in-ForAll-clause-less c = inr (λ d x.
 
 pub returns-in_ok-made-in-Atomic-clause-less : goal.returns-in_ok-made-in-Atomic-clause-less
 returns-in_ok-made-in-Atomic-clause-less c = let e = c.in_ok-made-in-Atomic.ensures in inl (omega (arith, e.count))
+
+pub returns-in_ok-made-in-And-clause-kind : goal.returns-in_ok-made-in-And-clause-kind
+returns-in_ok-made-in-And-clause-kind c = λ k h. subst (λ o. IsNested k (is_assumed o) (reverse c.args.frames.now.items)) (sym c.in_ok-made-in-And.ensures.assumed) h
+
+pub returns-in_ok-made-in-Implies-clause-kind : goal.returns-in_ok-made-in-Implies-clause-kind
+returns-in_ok-made-in-Implies-clause-kind c = λ k h. subst (λ o. IsNested k (is_assumed o) (reverse c.args.frames.now.items)) (sym c.in_ok-made-in-Implies.ensures.assumed) h
+
+pub returns-in_ok-made-in-ForAll-clause-kind : goal.returns-in_ok-made-in-ForAll-clause-kind
+returns-in_ok-made-in-ForAll-clause-kind c = λ k h. subst (λ o. IsNested k (is_assumed o) (reverse c.args.frames.now.items)) (sym c.in_ok-made-in-ForAll.ensures.assumed) h

@@ -1,8 +1,9 @@
-use Rattle.std.proofs.Common.{arith, ap, sym, subst, inl, inr}
+use Rattle.std.proofs.Common.{arith, ap, sym, subst, inl, inr, reverse}
 use Rattle.lp_lemmas.proofs.Results.{passed_up}
 use Rattle.lp_normal.specs.Counted.{IsOver}
 use Rattle.lp_normal.specs.inner.Met.{inner_met, Passes}
 use Rattle.lp_normal.specs.inner.Work.{inner_work}
+use Rattle.lp_normal.specs.inner.Kinds.{is_in_goals, IsNested}
 use Rattle.lp_normal.proofs.step.step.Goals as goal
 
 pub goals_move-requires-clause-list : goal.goals_move-requires-clause-list
@@ -38,3 +39,9 @@ returns-in_ok-next-in-Clauses-clause-less c =
       | inl l ↦ inl l
       | inr f ↦ inr (λ d x. omega (arith, f d x, ap (inner_work d) c.in-Clauses.is))
     ]
+
+pub returns-in_ok-next-in-Goals-clause-kind : goal.returns-in_ok-next-in-Goals-clause-kind
+returns-in_ok-next-in-Goals-clause-kind c = λ k h. c.in_ok-next-in-Goals.ensures.kind k (subst (λ i. IsNested k (is_in_goals i) (reverse c.args.frames.now.items)) c.in-Goals.is h)
+
+pub returns-in_ok-next-in-Clauses-clause-kind : goal.returns-in_ok-next-in-Clauses-clause-kind
+returns-in_ok-next-in-Clauses-clause-kind c = λ k h. c.in_ok-next-in-Clauses.ensures.kind k (subst (λ i. IsNested k (is_in_goals i) (reverse c.args.frames.now.items)) c.in-Clauses.is h)

@@ -1,4 +1,4 @@
-use Rattle.std.proofs.Common.{length, arith, refl, ap}
+use Rattle.std.proofs.Common.{length, arith, refl, ap, sym, subst, reverse}
 use Rattle.lp_model.specs.declared.clause.Goal as code
 use Rattle.lp_model.specs.declared.clause.Clause.{Clause}
 use Rattle.lp_normal.specs.Within.{IsFrameIn}
@@ -10,6 +10,8 @@ use Rattle.lp_normal.specs.inner.Met.{frame_met}
 use Rattle.lp_normal.proofs.Counts.{new_met, frames_pushed, with_met, with_clause_met, either_counts, all_counts, assume_counts, not_counts}
 use Rattle.lp_normal.specs.inner.Work.{frame_work}
 use Rattle.lp_normal.proofs.Works.{new_work, frames_work_pushed, same_work, same_clauses_work}
+use Rattle.lp_normal.specs.inner.Kinds.{is_assumed, waits_in_goals, IsNested}
+use Rattle.lp_normal.proofs.Nested.{nested_pushed}
 use Rattle.lp_normal.proofs.step.take_goals.Goals as goal
 
 pub returns-in_ok-push-in-Left-clause-frames : goal.returns-in_ok-push-in-Left-clause-frames
@@ -179,3 +181,25 @@ pub returns-in_ok-made-in-Body-clause-less : goal.returns-in_ok-made-in-Body-cla
 returns-in_ok-made-in-Body-clause-less c = λ d.
     let e = c.in_ok-made-in-Body.ensures in
     omega (arith, ap (frame_work d) c.in-Body.is, same_clauses_work d c.in_ok-made-in-Body.made c.in-Body.outer e.assumed e.waiting)
+
+pub returns-in_ok-push-in-Left-clause-kind : goal.returns-in_ok-push-in-Left-clause-kind
+returns-in_ok-push-in-Left-clause-kind c = λ k h.
+    nested_pushed k c.args.frames.now.items c.push.new.self.items (Frame.Right c.in-Left.outer c.args.goals) c.in_ok-push-in-Left.ensures.items
+    (subst (λ f. IsNested k (waits_in_goals f) (reverse c.args.frames.now.items)) c.in-Left.is h)
+
+pub returns-in_ok-made-in-Right-clause-kind : goal.returns-in_ok-made-in-Right-clause-kind
+returns-in_ok-made-in-Right-clause-kind c = λ k h. subst (λ f. IsNested k (waits_in_goals f) (reverse c.args.frames.now.items)) c.in-Right.is h
+
+pub returns-in_ok-made-in-All-clause-kind : goal.returns-in_ok-made-in-All-clause-kind
+returns-in_ok-made-in-All-clause-kind c = λ k h. subst (λ f. IsNested k (waits_in_goals f) (reverse c.args.frames.now.items)) c.in-All.is h
+
+pub returns-in_ok-made-in-Assume-clause-kind : goal.returns-in_ok-made-in-Assume-clause-kind
+returns-in_ok-made-in-Assume-clause-kind c = λ k h. subst (λ f. IsNested k (waits_in_goals f) (reverse c.args.frames.now.items)) c.in-Assume.is h
+
+pub returns-in_ok-made-in-Not-clause-kind : goal.returns-in_ok-made-in-Not-clause-kind
+returns-in_ok-made-in-Not-clause-kind c = λ k h. subst (λ f. IsNested k (waits_in_goals f) (reverse c.args.frames.now.items)) c.in-Not.is h
+
+pub returns-in_ok-made-in-Body-clause-kind : goal.returns-in_ok-made-in-Body-clause-kind
+returns-in_ok-made-in-Body-clause-kind c = λ k h.
+    subst (λ o. IsNested k (is_assumed o) (reverse c.args.frames.now.items)) (sym c.in_ok-made-in-Body.ensures.assumed)
+    (subst (λ f. IsNested k (waits_in_goals f) (reverse c.args.frames.now.items)) c.in-Body.is h)

@@ -7,12 +7,14 @@ use Rattle.lp_lemmas.proofs.Elements.{All_popped}
 use Rattle.lp_pattern.specs.Growing.{IsPairOf}
 use Rattle.lp_pattern.specs.Under.{IsReading, under}
 use Rattle.lp_pattern.specs.Comparing.{IsPassed, pairs_of}
+use Rattle.lp_pattern.proofs.Falls.{pair_falls}
 use Rattle.lp_pattern.proofs.Tops.{are_start, are_next, are_apart_at, are_done, refused_at, start_known}
 use Rattle.lp_pattern.proofs.Walking.{reading_kept}
 use Rattle.lp_pattern.proofs.compare.are_same.Goals as goal
 
 pub pairs-init : goal.pairs-init
 pairs-init c = record {
+  fewer = omega arith;
   kept = extends_same c.args.bank.now;
   left = start_known (length c.args.bank.now.terms) c.args.level c.args.lefts.now c.args.rights.now c.push_pairs.new.left.items
       (c.in_ok-push_pairs.ensures ∙ ap (λ l. l ++ reverse (pairs_of c.args.level c.args.lefts.now c.args.rights.now)) c.new-left.ensures.items)
@@ -51,6 +53,7 @@ returns-then-not-is_same-clause-compared c = λ r i n.
 
 pub pairs-preserved : goal.pairs-preserved
 pairs-preserved c = record {
+  fewer = omega (arith, c.pairs.invariant.fewer, c.in_ok-is_same.ensures.fewer);
   kept = extends-trans c.args.bank.now c.pairs.bank c.compare.new.bank c.pairs.invariant.kept c.in_ok-is_same.ensures.kept;
   left = c.in_ok-is_same.ensures.left;
   rest = λ r i n.
@@ -59,3 +62,12 @@ pairs-preserved c = record {
       c.in_ok-is_same.is_same c.in-Some.ensures.items c.if-not-is_same.false (c.pairs.invariant.rest r i n)
       (c.in_ok-is_same.ensures.compared r (reading_kept c.args.bank.now c.pairs.bank c.args.bindings.now r c.pairs.invariant.kept i) n);
 }
+
+pub pairs-smaller : goal.pairs-smaller
+pairs-smaller c = pair_falls _ _ _ c.pop.new.self.items c.pairs.left.items c.in-Some.pair c.in-Some.ensures.items c.in_ok-is_same.ensures.falls
+
+pub returns-in_default-clause-fewer : goal.returns-in_default-clause-fewer
+returns-in_default-clause-fewer c = c.pairs.invariant.fewer
+
+pub returns-then-not-is_same-clause-fewer : goal.returns-then-not-is_same-clause-fewer
+returns-then-not-is_same-clause-fewer c = omega (arith, c.pairs.invariant.fewer, c.in_ok-is_same.ensures.fewer)

@@ -1,8 +1,9 @@
-use Rattle.std.proofs.Common.{ℕ, ◌∷◌}
+use Rattle.std.proofs.Common.{ℕ, ◌∷◌, arith}
 use Rattle.lp_model.specs.Pair.{Closing}
 use Rattle.lp_pattern.specs.Under.{IsReading, under}
 use Rattle.lp_pattern.specs.Comparing.{IsPassed, compare_pairs, pair_at, pairs_under}
 use Rattle.lp_term.proofs.Moves.{passed_up}
+use Rattle.lp_pattern.proofs.Falls.{unit_falls}
 use Rattle.lp_pattern.proofs.Tops.{left_known, rigid_step, rigid_spent, rigid_passed}
 use Rattle.lp_pattern.proofs.compare.both_rigid.Goals as goal
 
@@ -36,3 +37,9 @@ pub returns-clause-left : goal.returns-clause-left
 returns-clause-left c =
     left_known _ c.args.level c.in_ok-is_same.is_same c.args.one.now.arguments.items c.args.other.now.arguments.items c.args.left.now.items c.with_arguments.new.left.items c.requires.looked_one.arguments c.requires.looked_other.arguments
     c.requires.left c.in_ok-same.ensures.pushed c.in_ok-same.ensures.others
+
+pub returns-clause-fewer : goal.returns-clause-fewer
+returns-clause-fewer c = omega (arith, c.in_ok-spend.ensures.spent, c.in_ok-is_same.ensures.fewer)
+
+pub returns-clause-falls : goal.returns-clause-falls
+returns-clause-falls c = unit_falls _ _ _ _ (omega (arith, c.in_ok-spend.ensures.spent, c.in_ok-is_same.ensures.fewer))

@@ -1,8 +1,9 @@
-use Rattle.std.proofs.Common.{ℕ, ◌∷◌, sym}
+use Rattle.std.proofs.Common.{ℕ, ◌∷◌, sym, arith}
 use Rattle.lp_model.specs.Pair.{Closing}
 use Rattle.lp_pattern.specs.Under.{IsReading, under}
 use Rattle.lp_pattern.specs.Comparing.{IsPassed, compare_pairs, pair_at, pairs_under}
 use Rattle.lp_term.proofs.Moves.{passed_up}
+use Rattle.lp_pattern.proofs.Falls.{unit_falls}
 use Rattle.lp_pattern.proofs.Tops.{left_known, variables_step, variables_spent}
 use Rattle.lp_pattern.proofs.compare.both_variables.Goals as goal
 
@@ -26,3 +27,9 @@ pub returns-clause-left : goal.returns-clause-left
 returns-clause-left c =
     left_known _ c.args.level c.are_one_variable-is_same.result c.args.one.now.arguments.items c.args.other.now.arguments.items c.args.left.now.items c.with_arguments.new.left.items c.requires.looked_one.arguments c.requires.looked_other.arguments
     c.requires.left c.in_ok-same.ensures.pushed c.in_ok-same.ensures.others
+
+pub returns-clause-fewer : goal.returns-clause-fewer
+returns-clause-fewer c = omega (arith, c.in_ok-spend.ensures.spent)
+
+pub returns-clause-falls : goal.returns-clause-falls
+returns-clause-falls c = unit_falls _ _ _ _ (omega (arith, c.in_ok-spend.ensures.spent))

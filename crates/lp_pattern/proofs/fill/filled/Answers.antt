@@ -1,8 +1,8 @@
-use Rattle.std.proofs.Common.{◌∙◌, sym, ap}
+use Rattle.std.proofs.Common.{◌∙◌, ap, arith}
 use Rattle.lp_term.proofs.Trees.{extends_same}
 use Rattle.lp_model.specs.Pair.{closed}
 use Rattle.lp_term.proofs.Within.{kept_then}
-use Rattle.lp_pattern.proofs.FilledTerms.{term_filled}
+use Rattle.lp_pattern.proofs.FilledTypes.{some_given}
 use Rattle.lp_pattern.proofs.Walking.{reading_kept}
 use Rattle.lp_pattern.proofs.fill.filled.Goals as goal
 
@@ -21,12 +21,27 @@ terms-preserved c = record {
       c.in_ok-step.ensures.filled d (reading_kept c.args.bank.now c.terms.bank c.args.bindings.now d c.terms.invariant.kept R) h (c.terms.invariant.filled d R h);
 }
 
+pub terms-preserved-in_default-2 : goal.terms-preserved-in_default-2
+terms-preserved-in_default-2 c = record {
+  kept = kept_then c.args.bank.now c.terms.bank c.made_of.new.bank c.terms.invariant.kept c.in_ok-made.ensures.kept;
+  later = kept_then c.inside.new.self c.terms.bank c.made_of.new.bank c.terms.invariant.later c.in_ok-made.ensures.kept;
+  filled = λ d R h.
+      c.in_ok-made.ensures.filled d (reading_kept c.args.bank.now c.terms.bank c.args.bindings.now d c.terms.invariant.kept R) h (c.terms.invariant.filled d R h);
+}
+
+pub made_of-requires : goal.made_of-requires
+made_of-requires c = omega (arith, c.in_ok-root.ensures.within, c.terms.invariant.later.more_terms)
+
 pub returns-in_default-clause-filled : goal.returns-in_default-clause-filled
 returns-in_default-clause-filled c = λ d R h.
-    let F = c.terms.invariant.filled d R h in
-    c.in_ok-made.ensures.tree ∙
-    term_filled c.inside.new.self c.terms.bank d c.in_ok-root.root c.in-Some-at.made c.terms.invariant.later c.in_ok-root.ensures.within (F.terms c.in_ok-root.root.0 c.in-Some-at.made (sym c.at.ensures ∙ c.in-Some-at.is)) ∙
-    ap (closed d) c.in_ok-root.ensures.tree
+    c.in_ok-made-2.ensures.tree ∙
+    (some_given _ _ _ c.in-Some-2.is c.in_ok-made.ensures.made d (reading_kept c.args.bank.now c.terms.bank c.args.bindings.now d c.terms.invariant.kept R) h (c.terms.invariant.filled d R h)).is ∙
+    ap (closed d) (c.terms.invariant.later.same_terms c.in_ok-root.root.0 c.in_ok-root.ensures.within ∙ c.in_ok-root.ensures.tree)
 
 pub returns-in_default-clause-kept : goal.returns-in_default-clause-kept
-returns-in_default-clause-kept c = kept_then c.args.bank.now c.terms.bank c.inside-in_default.new.self c.terms.invariant.kept c.in_ok-made.ensures.kept
+returns-in_default-clause-kept c =
+    kept_then c.args.bank.now c.made_of.new.bank c.inside-in_default.new.self (kept_then c.args.bank.now c.terms.bank c.made_of.new.bank c.terms.invariant.kept c.in_ok-made.ensures.kept) c.in_ok-made-2.ensures.kept
+
+pub returns-in_err-made-2-clause-kept : goal.returns-in_err-made-2-clause-kept
+returns-in_err-made-2-clause-kept c =
+    kept_then c.args.bank.now c.made_of.new.bank c.inside-in_default.new.self (kept_then c.args.bank.now c.terms.bank c.made_of.new.bank c.terms.invariant.kept c.in_ok-made.ensures.kept) c.in_err-made-2.ensures.kept

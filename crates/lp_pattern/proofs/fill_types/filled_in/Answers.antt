@@ -1,10 +1,10 @@
-use Rattle.std.proofs.Common.{◌∙◌, ap, sym}
+use Rattle.std.proofs.Common.{◌∙◌, ap, sym, arith, subst as transport}
 use Rattle.lp_term.proofs.Trees.{extends_same}
-use Rattle.lp_term.specs.Nodes.{type_tree}
 use Rattle.lp_calculus.specs.Types.{instance}
 use Rattle.lp_term.proofs.Within.{kept_then}
+use Rattle.lp_pattern.specs.Comparing.{IsLoose}
 use Rattle.lp_pattern.proofs.Walking.{types_kept}
-use Rattle.lp_pattern.proofs.FilledTypes.{root_filled, all_later}
+use Rattle.lp_pattern.proofs.FilledTypes.{some_given, all_later}
 use Rattle.lp_pattern.proofs.SameTypes.{unbound_loose}
 use Rattle.lp_pattern.proofs.fill_types.filled_in.Goals as goal
 
@@ -32,16 +32,29 @@ types-preserved c = record {
   filled = λ θ A F. c.in_ok-step.ensures.filled θ (types_kept c.args.bank.now c.types.bank c.args.bindings.now θ c.types.invariant.kept A) (c.types.invariant.filled θ A F);
 }
 
+pub types-preserved-in_default-2 : goal.types-preserved-in_default-2
+types-preserved-in_default-2 c = record {
+  kept = kept_then c.args.bank.now c.types.bank c.made_of.new.bank c.types.invariant.kept c.in_ok-of.ensures.kept;
+  later = kept_then c.inside_type.new.self c.types.bank c.made_of.new.bank c.types.invariant.later c.in_ok-of.ensures.kept;
+  filled = λ θ A F. all_later c.types.bank c.made_of.new.bank θ c.types.done c.in_ok-of.ensures.kept (c.types.invariant.filled θ A F);
+}
+
+pub made_of-requires : goal.made_of-requires
+made_of-requires c = omega (arith, c.in_ok-root.ensures.within c.in_ok-inside.ensures.within, c.types.invariant.later.more_types)
+
 pub returns-in_default-clause-filled : goal.returns-in_default-clause-filled
 returns-in_default-clause-filled c = λ θ A F.
     let a = c.args.bank.now in
     let b = c.inside_type.new.self in
     let d = c.types.bank in
     let memo = c.types.invariant.filled θ A F in
-    let at_root = memo c.in_ok-root.root.0 c.in-Some-at.made (sym c.at.ensures ∙ c.in-Some-at.is) in
-    let same = c.in_ok-root.ensures.same θ (types_kept a b c.args.bindings.now θ c.in_ok-inside.ensures.kept A) ∙ ap (instance θ) c.in_ok-inside.ensures.tree in (
-      all_later d c.inside_type-in_default.new.self θ c.types.done c.in_ok-of.ensures.kept memo,
-      c.in_ok-of.ensures.within,
-      c.in_ok-of.ensures.tree ∙
-          root_filled b d θ c.in_ok-root.root c.in-Some-at.made (instance θ (type_tree a c.args.id.0)) c.types.invariant.later (c.in_ok-root.ensures.within c.in_ok-inside.ensures.within) at_root same,
+    let stands = c.in_ok-root.ensures.within c.in_ok-inside.ensures.within in
+    let at_b = types_kept a b c.args.bindings.now θ c.in_ok-inside.ensures.kept A in
+    let at_d = types_kept a d c.args.bindings.now θ c.types.invariant.kept A in
+    let still = c.types.invariant.later.same_types c.in_ok-root.root.0 stands in
+    let loose = transport (IsLoose θ) (sym still) (unbound_loose b c.args.bindings.now θ c.in_ok-root.root at_b (c.in_ok-root.ensures.unbound θ at_b)) in
+    let same = c.in_ok-root.ensures.same θ at_b ∙ ap (instance θ) c.in_ok-inside.ensures.tree in (
+      all_later d c.made_of.new.bank θ c.types.done c.in_ok-of.ensures.kept memo,
+      some_given _ _ _ c.in-Some-2.is c.in_ok-of.ensures.within,
+      some_given _ _ _ c.in-Some-2.is c.in_ok-of.ensures.made θ at_d memo loose ∙ ap (instance θ) still ∙ same,
     )

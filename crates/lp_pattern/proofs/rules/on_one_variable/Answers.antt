@@ -1,4 +1,4 @@
-use Rattle.std.proofs.Common.{ℕ, sym, ◌∙◌, subst as transport, map, length}
+use Rattle.std.proofs.Common.{ℕ, sym, ◌∙◌, subst as transport, map, length, arith}
 use Rattle.lp_term.proofs.Moves.{passed_up}
 use Rattle.lp_model.specs.Pair.{Closing, Pair as Equation}
 use Rattle.lp_model.specs.Rule.{by_looks, compare_all}
@@ -6,6 +6,7 @@ use Rattle.lp_pattern.specs.Comparing.{IsPassed, IsComparedTo}
 use Rattle.lp_pattern.specs.Ruling.{view, IsSeenPair, IsRuledOut}
 use Rattle.lp_pattern.specs.Turning.{IsOpenReading, IsKnownPair}
 use Rattle.lp_pattern.specs.Under.{under}
+use Rattle.lp_term.proofs.Walking.{on_ok}
 use Rattle.lp_pattern.proofs.Results.{if_ok, if_err}
 use Rattle.lp_pattern.proofs.Walking.{reading_kept, looked_stays, open_kept}
 use Rattle.lp_pattern.proofs.Judging.{pair_kept, one_of}
@@ -99,3 +100,9 @@ returns-clause-done c =
     (pair_kept c.args.bank.now c.are_same.new.bank c.args.bindings.now r c.args.level c.args.one.now c.args.other.now p
     c.in_ok-is_same.ensures.kept c.requires.one c.requires.other h) v w.0 w.1 w.2 w.3)))
     c.on_others.ensures.done
+
+pub returns-then-is_same-clause-fewer : goal.returns-then-is_same-clause-fewer
+returns-then-is_same-clause-fewer c = c.in_ok-is_same.ensures.fewer
+
+pub returns-clause-fewer : goal.returns-clause-fewer
+returns-clause-fewer c = let few = c.in_ok-is_same.ensures.fewer in on_ok c.on_others.result _ _ (λ h. omega (arith, h, few)) c.on_others.ensures.fewer

@@ -9,12 +9,14 @@ use Rattle.lp_pattern.specs.Reading.{side_of}
 use Rattle.lp_pattern.specs.Stripping.{IsShut}
 use Rattle.lp_pattern.specs.Under.{IsReading, under}
 use Rattle.lp_pattern.specs.Visiting.{IsVisitOf, IsStopped}
+use Rattle.lp_pattern.proofs.Falls.{turn_falls}
 use Rattle.lp_pattern.proofs.Scannings.{scan_first, scan_next, scan_done, scan_stops, one_known}
 use Rattle.lp_pattern.proofs.Walking.{reading_kept}
 use Rattle.lp_pattern.proofs.scan.scan.Goals as goal
 
 pub parts-init : goal.parts-init
 parts-init c = record {
+  fewer = omega arith;
   kept = extends_same c.args.bank.now;
   left = one_known (length c.args.bank.now.terms) c.args.side.now.pair
       (record { term = c.args.term; opened = c.closed.result; is_inside = false }) [] c.push.new.self.items (c.requires.term, c.closed.ensures.level) (All-nil (IsVisitOf (length c.args.bank.now.terms) c.args.side.now.pair))
@@ -48,6 +50,7 @@ returns-in_err-visit_part-clause-stopped c =
 
 pub parts-preserved : goal.parts-preserved
 parts-preserved c = record {
+  fewer = omega (arith, c.parts.invariant.fewer, c.in_ok-visit_part.ensures.fewer);
   kept = extends-trans c.args.bank.now c.parts.bank c.visit_part.new.bank c.parts.invariant.kept c.in_ok-visit_part.ensures.kept;
   left = c.in_ok-visit_part.ensures.left;
   rest = λ r i h n.
@@ -55,3 +58,9 @@ parts-preserved c = record {
       c.visit_part.new.found _ c.in-Some.ensures.items (c.parts.invariant.rest r i h n)
       (c.in_ok-visit_part.ensures.scanned r (reading_kept c.args.bank.now c.parts.bank c.args.bindings.now r c.parts.invariant.kept i) h n n);
 }
+
+pub parts-smaller : goal.parts-smaller
+parts-smaller c = turn_falls _ _ _ c.pop.new.self.items c.parts.left.items c.in-Some.visit c.in-Some.ensures.items c.in_ok-visit_part.ensures.falls
+
+pub returns-in_default-clause-fewer : goal.returns-in_default-clause-fewer
+returns-in_default-clause-fewer c = c.parts.invariant.fewer

@@ -1,3 +1,4 @@
+use Rattle.lp_pattern.proofs.Falls.{body_falls}
 use Rattle.lp_pattern.proofs.Scannings.{body_goes, body_visit, one_known}
 use Rattle.lp_pattern.proofs.scan.visit_body.Goals as goal
 
@@ -13,3 +14,6 @@ returns-clause-scanned c = λ r i h m n.
     c.requires.visit m n c.args.units.now c.args.found.now c.args.body c.in_ok-inner.inner c.push.new.self.items h c.requires.head
     c.in_ok-inner.ensures.term c.in_ok-inner.ensures.level c.in_ok-inner.ensures.depth
     c.in_ok-inner.ensures.inside c.in_ok-push.ensures.items
+
+pub returns-clause-falls : goal.returns-clause-falls
+returns-clause-falls c = body_falls c.args.units.now c.args.visit.opened.depth c.args.left.now.items c.push.new.self.items c.in_ok-inner.inner c.in_ok-push.ensures.items c.in_ok-inner.ensures.depth c.in_ok-inner.ensures.few

@@ -2,6 +2,8 @@ use Rattle.std.proofs.Common.{◌+◌, ◌∷◌, ◌∙◌, sym, ap, subst as t
 use Rattle.lp_term.proofs.Walking.{on_ok}
 use Rattle.lp_pattern.specs.Reading.{side_of}
 use Rattle.lp_pattern.specs.Refusing.{IsOfTerm}
+use Rattle.lp_term.specs.Nodes.{tree}
+use Rattle.lp_pattern.proofs.Falls.{unit_falls, ground_node}
 use Rattle.lp_pattern.proofs.Results.{err_and, if_err}
 use Rattle.lp_pattern.proofs.Walking.{reading_kept}
 use Rattle.lp_pattern.proofs.Scannings.{visit_goes, visit_stops, visit_far, visits_kept}
@@ -56,3 +58,12 @@ returns-clause-stopped c =
     visit_stops m n (side_of c.args.side.now) c.args.bank.now c.look.new.bank r c.args.visit c.in_ok-looked.looked.whole c.args.left.now.items 1000000 c.args.side.now.pair c.args.units.now e c.in_ok-looked.ensures.kept
     c.requires.left (c.in_ok-looked.ensures.reached r i) (f r (reading_kept c.args.bank.now c.look.new.bank c.args.bindings.now r c.in_ok-looked.ensures.kept i) h m n))
     c.visit_seen.ensures.stopped
+
+pub returns-in-Some-clause-fewer : goal.returns-in-Some-clause-fewer
+returns-in-Some-clause-fewer c = on_ok c.spend_many.result _ _ (λ e. omega (arith, e)) c.spend_many.ensures.spent
+
+pub returns-in-Some-clause-falls : goal.returns-in-Some-clause-falls
+returns-in-Some-clause-falls c =
+    let some = ground_node (tree c.args.bank.now c.args.visit.term.0) c.in-Some.ensures.0 in
+    let count = c.in-Some.ensures.1 in
+    on_ok c.spend_many.result _ _ (λ e. unit_falls _ _ _ _ (omega (arith, e, some, count))) c.spend_many.ensures.spent

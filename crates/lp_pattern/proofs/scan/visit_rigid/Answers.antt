@@ -1,4 +1,4 @@
-use Rattle.std.proofs.Common.{ℕ, ◌∷◌, ◌++◌, ◌∙◌, sym, ap, refl, reverse}
+use Rattle.std.proofs.Common.{ℕ, ◌∷◌, ◌++◌, ◌∙◌, sym, ap, refl, reverse, arith}
 use Rattle.lp_term.proofs.Moves.{passed_up}
 use Rattle.lp_model.specs.Pair.{Closing}
 use Rattle.lp_pattern.specs.Reading.{side_of}
@@ -6,6 +6,7 @@ use Rattle.lp_pattern.specs.Scanning.{visits}
 use Rattle.lp_pattern.specs.Stripping.{IsShut}
 use Rattle.lp_pattern.specs.Under.{IsReading}
 use Rattle.lp_pattern.specs.Visiting.{IsStopped, scan_parts, part_at, parts_of}
+use Rattle.lp_pattern.proofs.Falls.{unit_falls}
 use Rattle.lp_pattern.proofs.Scannings.{rigid_goes, rigid_breaks, rigid_spent, pushed_known}
 use Rattle.lp_pattern.proofs.scan.visit_rigid.Goals as goal
 
@@ -35,3 +36,9 @@ returns-clause-scanned c = λ r i h m n.
     (record { is_delayed = c.either-found.result; has_misfit = c.args.found.now.has_misfit }) c.allows_head-is_allowed.result c.push_arguments.new.left.items c.requires.head c.allows_head-is_allowed.ensures (sym c.either-goes.ensures ∙ c.if-not-goes.false)
     c.in_ok-spend.ensures.spent c.either-found.ensures refl
     (c.in_ok-push_arguments.ensures ∙ ap (λ l. c.args.left.now.items ++ reverse (visits c.args.visit c.args.visit.is_inside l)) c.as_slice.ensures.value)
+
+pub returns-clause-fewer : goal.returns-clause-fewer
+returns-clause-fewer c = omega (arith, c.in_ok-spend.ensures.spent)
+
+pub returns-clause-falls : goal.returns-clause-falls
+returns-clause-falls c = unit_falls _ _ _ _ (omega (arith, c.in_ok-spend.ensures.spent))

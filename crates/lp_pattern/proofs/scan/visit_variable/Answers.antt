@@ -1,4 +1,4 @@
-use Rattle.std.proofs.Common.{ℕ, ◌∷◌, ◌++◌, ◌∙◌, ap, subst as transport, map, reverse, length, true, Some, None}
+use Rattle.std.proofs.Common.{ℕ, ◌∷◌, ◌++◌, ◌∙◌, ap, subst as transport, map, reverse, length, true, Some, None, arith}
 use Rattle.lp_term.proofs.Moves.{passed_up}
 use Rattle.lp_model.specs.Pair.{Closing}
 use Rattle.lp_pattern.specs.Reading.{side_of}
@@ -6,6 +6,7 @@ use Rattle.lp_pattern.specs.Scanning.{visits}
 use Rattle.lp_pattern.specs.Stripping.{IsShut, IsPattern, HasNoPattern, read_at}
 use Rattle.lp_pattern.specs.Under.{IsReading}
 use Rattle.lp_pattern.specs.Visiting.{IsStopped, scan_parts, part_at, parts_of}
+use Rattle.lp_pattern.proofs.Falls.{unit_falls}
 use Rattle.lp_pattern.proofs.Results.{err_and}
 use Rattle.lp_pattern.specs.Refusing.{IsOfTerm}
 use Rattle.lp_pattern.proofs.Scannings.{variable_spent, variable_far, open_goes, pattern_goes, pattern_breaks, pushed_known, visits_kept}
@@ -70,3 +71,15 @@ returns-clause-scanned c = λ r i h m n.
     (Some c.in-Some.pattern)) c.as_slice-arguments.ensures.value (transport (λ o. IsPattern m c.args.level
     (map (read_at c.args.bank.now r c.args.visit.opened.level c.args.visit.opened.depth) c.as_slice-arguments.result.now) o) c.in-Some.is
     (c.in_ok-pattern.ensures.pattern r i h m))) c.in_ok-spend.ensures.spent c.in_ok-note_pattern.ensures.noted c.requires.left
+
+pub returns-in_default-clause-fewer : goal.returns-in_default-clause-fewer
+returns-in_default-clause-fewer c = omega (arith, c.in_ok-spend.ensures.spent)
+
+pub returns-in_default-clause-falls : goal.returns-in_default-clause-falls
+returns-in_default-clause-falls c = unit_falls _ _ _ _ (omega (arith, c.in_ok-spend.ensures.spent))
+
+pub returns-clause-fewer : goal.returns-clause-fewer
+returns-clause-fewer c = omega (arith, c.in_ok-spend.ensures.spent)
+
+pub returns-clause-falls : goal.returns-clause-falls
+returns-clause-falls c = unit_falls _ _ _ _ (omega (arith, c.in_ok-spend.ensures.spent))

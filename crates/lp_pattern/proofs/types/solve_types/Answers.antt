@@ -1,4 +1,4 @@
-use Rattle.std.proofs.Common.{◌≡◌, ap, refl, length, rules}
+use Rattle.std.proofs.Common.{◌≡◌, ap, refl, arith, length, rules}
 use Rattle.lp_term.specs.Nodes.{type_tree}
 use Rattle.lp_type_unify.specs.Reading.{reading, reads}
 use Rattle.lp_pattern.proofs.TypesSolved.{all_solved, none_solved, refused_rightly, units_solved, ended_there, general_there, refused_there}
@@ -47,3 +47,6 @@ returns-then-is_empty-clause-behind c = λ r i h still n o d.
     read_behind c.args.bank.now c.args.bank.now c.args.bindings.now c.args.bindings.now r c.args.units.now c.args.units.now n c.args.pairs.now o (extends_same c.args.bank.now) refl i h d
     (none_solved c.args.bank.now c.args.bindings.now r.types (type_pairs_of c.args.bank.now r.types c.args.pairs.now) c.args.units.now n o i.types still
     (ap (type_pairs_of c.args.bank.now r.types) (nothing c.args.pairs.now (no_pairs c))) d)
+
+pub returns-clause-fewer : goal.returns-clause-fewer
+returns-clause-fewer c = let e = c.in_ok-units.ensures.solved.2 in omega (arith, e)

@@ -2,6 +2,7 @@ use Rattle.std.proofs.Common.{◌≡◌, ◌∙◌, ap, sym, arith, ℕ, List, [
 use Rattle.std.specs.Prelude.{◌||◌, All}
 use Rattle.lp_lemmas.proofs.Elements.{All_empty}
 use Rattle.lp_pattern.specs.Growing.{IsPairOf}
+use Rattle.lp_pattern.proofs.Falls.{round_falls}
 use Rattle.lp_pattern.proofs.Stacks.{still_pairs, stacked_known}
 use Rattle.lp_term.proofs.Moves.{passed_up}
 use Rattle.lp_term.proofs.Trees.{extends-trans}
@@ -98,3 +99,11 @@ rounds-preserved c =
           (c.in_ok-is_bound.ensures.taken c.args.limit (record { closing = r; levels = lv; next = c.args.next.now }) n u c.rounds.has_types (c.rounds.invariant.comes r i lv ps ds p q k m n u h))
           goes_on (c.in_ok-push_pairs-2.ensures ∙ ap (λ l. c.take_all.new.todo.items ++ reverse l) c.as_slice.ensures.value) c.in_ok-is_bound.ensures.emptied c.clear.ensures.items;
     }
+
+pub rounds-smaller : goal.rounds-smaller
+rounds-smaller c =
+    let goes_on : (c.rounds.has_types || c.in_ok-is_bound.is_bound) ≡ true = elim c.else-not-is_bound.branch [
+      | else-not-is_bound-via-then-not-is_bound+else-not-has_types w ↦ one_of c.rounds.has_types c.in_ok-is_bound.is_bound (inl w.if-not-has_types.false)
+      | else-not-is_bound-via-else-not-is_bound w ↦ one_of c.rounds.has_types c.in_ok-is_bound.is_bound (inr w.if-not-is_bound.false)
+    ] in
+    round_falls c.rounds.has_types c.in_ok-is_bound.is_bound c.take_all.new.units c.rounds.units goes_on c.in_ok-is_bound.ensures.fewer c.in_ok-is_bound.ensures.bound

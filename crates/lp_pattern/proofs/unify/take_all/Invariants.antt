@@ -1,4 +1,4 @@
-use Rattle.std.proofs.Common.{◌≤◌, ℕ, Bool, reverse, length}
+use Rattle.std.proofs.Common.{◌≡◌, ◌≤◌, ◌<◌, ◌⊎◌, ℕ, Bool, reverse, length}
 use Rattle.std.specs.Prelude.{All}
 use Rattle.lp_term.specs.Nodes.{Extends}
 use Rattle.lp_model.specs.Unify.{Unified}
@@ -8,6 +8,8 @@ use Rattle.lp_pattern.proofs.unify.take_all.Given as goal
 
 abbrev pub invariant-pairs : goal.invariant-pairs
 invariant-pairs l = record {
+  fewer : l.units ≤ l.fn.units;
+  still : (l.units < l.fn.units) ⊎ (l.bindings ≡ l.fn.bindings);
   kept : Extends l.fn.bank l.bank;
   more : l.fn.next ≤ l.next;
   grown : Grows l.fn.bindings l.bindings;
@@ -16,3 +18,6 @@ invariant-pairs l = record {
   comes : (limit : ℕ) (o : Began) (n : ℕ) (u : Unified) (bound : Bool) → LeadsTo limit o n u l.fn.bank l.fn.bindings l.fn.next l.fn.units (reverse l.fn.todo.items) l.fn.waiting.items bound →
       ComesTo limit o n u bound l.fn.bindings l.bank l.bindings l.next l.units (reverse l.todo.items) l.waiting.items;
 }
+
+abbrev pub decreases-pairs : goal.decreases-pairs
+decreases-pairs l = l.units

@@ -11,8 +11,8 @@ use Rattle.std.specs.Prelude.{◌⊎◌}
 use Rattle.lp_sig.specs.ModuleFaults as faults
 use Rattle.lp_sig.specs.declared.fault.SigFault.TheVariants as fault
 use Rattle.lp_term.proofs.Trees.{extends-trans}
-use Rattle.lp_sig.specs.Differing.{HasNameCause, IsOtherIf}
-use Rattle.lp_sig.proofs.Taking.{long_cause, long_not_other, type_cause, type_not_other, other_written, typed_inside, takes_typed}
+use Rattle.lp_sig.specs.Differing.{HasNameCause, HasTypeCause}
+use Rattle.lp_sig.proofs.Taking.{err_both, long_cause, long_type_cause, type_cause, written_cause, new_not_long, other_written, typed_inside, takes_typed}
 use Rattle.lp_sig.proofs.declare.declare_constants.Goals as goal
 
 pub returns-in_err-check_lengths-clause-exact : goal.returns-in_err-check_lengths-clause-exact
@@ -98,23 +98,26 @@ pub returns-clause-full : goal.returns-clause-full
 returns-clause-full c = λ said words k h. c.declare_all.ensures.full words h
 
 pub returns-in_err-check_lengths-clause-other : goal.returns-in_err-check_lengths-clause-other
-returns-in_err-check_lengths-clause-other c = λ said defs given rows words r. passed_up c.from_residual.result c.in_err-check_lengths.field-0.0 (IsOtherIf c.args.source.now said defs given rows c.args.spots.now c.args.raw.now) c.from_residual.ensures.1
-    (λ z e. absurd (long_not_other c.in_err-check_lengths.field-0.0 z c.in_err-check_lengths.ensures.long.0 e))
+returns-in_err-check_lengths-clause-other c = λ said defs given rows words r.
+    passed_up c.from_residual.result c.in_err-check_lengths.field-0.0 (HasTypeCause c.args.source.now said defs given rows c.args.spots.now c.args.raw.now) c.from_residual.ensures.1
+    (long_type_cause c.args.source.now said defs c.args.raw.now given rows c.args.spots.now c.in_err-check_lengths.field-0.0 c.in_err-check_lengths.ensures.long.0)
 
 pub returns-in_err-declared-clause-other : goal.returns-in_err-declared-clause-other
-returns-in_err-declared-clause-other c = λ said defs given rows words r. passed_up c.from_residual-in_err-declared.result c.in_err-declared.field-0.0 (IsOtherIf c.args.source.now said defs given rows c.args.spots.now c.args.raw.now) c.from_residual-in_err-declared.ensures.1
-    (λ z e. absurd (type_not_other c.args.source.now said c.args.raw.now c.in_err-declared.field-0.0 z (c.in_err-declared.ensures.reason said r.knows) e))
+returns-in_err-declared-clause-other c = λ said defs given rows words r.
+    passed_up c.from_residual-in_err-declared.result c.in_err-declared.field-0.0 (HasTypeCause c.args.source.now said defs given rows c.args.spots.now c.args.raw.now) c.from_residual-in_err-declared.ensures.1
+    (written_cause c.args.source.now said defs c.args.raw.now given rows c.args.spots.now c.in_err-declared.field-0.0 (c.in_err-declared.ensures.reason said r.knows) (c.in_err-declared.ensures.exact said defs r.knows r.holds))
 
 pub returns-clause-other : goal.returns-clause-other
 returns-clause-other c = λ said defs given rows words r.
     let text = c.args.source.now in
+    let names = c.args.spots.now in
     let b = c.args.bodies.now.types.bank in
     let mid = c.scheme.new.self.types.bank in
     let now = c.declare_all.new.types.bank in
     let typed = c.in_ok-declared.ensures.typed said defs r.knows r.holds in
-    IfErr-weaker c.declare_all.result _ (IsOtherIf text said defs given rows c.args.spots.now c.args.raw.now)
-    (λ f o. other_written b mid now c.args.constants.now said defs given rows text c.args.spots.now c.args.raw.now c.in_ok-declared.declared f (extends-trans b mid now c.scheme.ensures.kept c.declare_all.ensures.kept) c.declare_all.ensures.kept r.types typed o)
-    (c.declare_all.ensures.other words (typed_inside mid said defs (written_in text c.args.raw.now) c.in_ok-declared.declared typed) r.met)
+    err_both c.declare_all.result _ _ (HasTypeCause text said defs given rows names c.args.raw.now)
+    (λ f o n. other_written b mid now c.args.constants.now said defs given rows text names c.args.raw.now c.in_ok-declared.declared f (extends-trans b mid now c.scheme.ensures.kept c.declare_all.ensures.kept) c.declare_all.ensures.kept r.types typed o (new_not_long names f n))
+    (c.declare_all.ensures.other words (typed_inside mid said defs (written_in text c.args.raw.now) c.in_ok-declared.declared typed) r.met) c.declare_all.ensures.reason
 
 pub returns-clause-takes : goal.returns-clause-takes
 returns-clause-takes c = on_ok_both c.declare_all.result c.declare_all.ensures.adds c.declare_all.ensures.words (λ adds words.

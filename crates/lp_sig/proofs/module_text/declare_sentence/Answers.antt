@@ -11,7 +11,7 @@ use Rattle.std.specs.Prelude.{All}
 use Rattle.std.proofs.lemmas.List.Elements.{All-push}
 use Rattle.std.proofs.lemmas.Result.{IfErr-weaker, IfOk-weaker}
 use Rattle.lp_sig.specs.ModuleFaults.{IsLineTaken}
-use Rattle.lp_sig.specs.ModuleFaults.{HasLineCause, IsLineOtherIf}
+use Rattle.lp_sig.specs.ModuleFaults.{HasLineCause, HasLineTypeCause}
 use Rattle.lp_sig.proofs.Taking.{one_declared, sentence_taken, none_taken}
 use Rattle.lp_sig.proofs.module_text.declare_sentence.Goals as goal
 
@@ -64,7 +64,7 @@ returns-in-Declares-clause-full c = λ said words k h d is. IfErr-weaker c.decla
 
 pub returns-in-Declares-clause-other : goal.returns-in-Declares-clause-other
 returns-in-Declares-clause-other c = λ said defs given rows words r d is. IfErr-weaker c.declare.result _ _
-    (λ e f. subst (λ d. IsLineOtherIf c.args.lines.now.own.now c.args.lines.now.source.now said defs given rows d e) (one_declared c.args.sentence.now c.in-Declares.declaration d c.in-Declares.is is) f) (c.declare.ensures.other said defs given rows words r)
+    (λ e f. subst (λ d. HasLineTypeCause c.args.lines.now.own.now c.args.lines.now.source.now said defs given rows d e) (one_declared c.args.sentence.now c.in-Declares.declaration d c.in-Declares.is is) f) (c.declare.ensures.other said defs given rows words r)
 
 pub returns-in-Declares-clause-takes : goal.returns-in-Declares-clause-takes
 returns-in-Declares-clause-takes c = on_ok_weaker c.declare.result (λ h. sentence_taken c.args.making.now c.declare.new.making c.args.lines.now.source.now c.args.sentence.now c.in-Declares.declaration c.in-Declares.is h) c.declare.ensures.takes

@@ -1,3 +1,5 @@
+use Rattle.std.specs.Prelude.{string_bytes}
+use Rattle.lp_sig.proofs.Steps.{step_within}
 use Rattle.std.proofs.Common.{map, subst, arith, ap, ◌∙◌, []}
 use Rattle.lp_lemmas.proofs.Results.{passed_up}
 use Rattle.lp_sig.specs.Loading.{IsLoadOrder}
@@ -98,3 +100,7 @@ returns-clause-accepted c = record {
       c.deref-step-items.result.now c.loop-step.step-index c.in_ok-steps.steps.items c.deref-step-items.ensures.value c.loop-step-test.false)
       c.loop-step.invariant.typed.1);
 }
+
+pub take-requires : goal.take-requires
+take-requires c = step_within (map string_bytes c.args.names.now) c.args.sources.now c.args.texts.now c.args.root (map (λ out. out.items) c.in_ok-ways.ways.ways.items) c.in_ok-steps.steps.items c.deref-step-items.result.now c.loop-step.step-index _
+    c.in_ok-ways.ensures c.in_ok-steps.ensures c.deref-step-items.ensures.value c.loop-step-test.true

@@ -4,6 +4,7 @@ use Rattle.lp_lemmas.proofs.Results.{on_ok_always}
 use Rattle.lp_sig.specs.Said.{fixities_in, of_step}
 use Rattle.lp_sig.specs.Abbreviations.{one_text}
 use Rattle.lp_sig.specs.Holding.{Follows}
+use Rattle.lp_sig.specs.Walking.{HasText}
 use Rattle.lp_sig.specs.Knowing.{KnowsOperators}
 use Rattle.lp_sig.specs.Declares.{Declares}
 use Rattle.lp_sig.proofs.DeclaredConstants.{nothing_declares}
@@ -28,3 +29,15 @@ returns-in-Enter-clause-constants c = on_ok_always c.enter.result _ (nothing_dec
 
 pub returns-in-Declare-clause-constants : goal.returns-in-Declare-clause-constants
 returns-in-Declare-clause-constants c = on_ok_weaker c.declare.result (λ h. subst (λ s. Declares c.args.making.now c.declare.new.making (of_step one_text c.args.sources.now c.args.texts.now s)) (sym c.in-Declare.is) h) c.declare.ensures.constants
+
+pub enter-requires-clause-source : goal.enter-requires-clause-source
+enter-requires-clause-source c = (subst (HasText c.args.sources.now c.args.texts.now) c.in-Enter.is c.requires).source
+
+pub enter-requires-clause-text : goal.enter-requires-clause-text
+enter-requires-clause-text c = (subst (HasText c.args.sources.now c.args.texts.now) c.in-Enter.is c.requires).text
+
+pub declare-requires-clause-source : goal.declare-requires-clause-source
+declare-requires-clause-source c = (subst (HasText c.args.sources.now c.args.texts.now) c.in-Declare.is c.requires).source
+
+pub declare-requires-clause-text : goal.declare-requires-clause-text
+declare-requires-clause-text c = (subst (HasText c.args.sources.now c.args.texts.now) c.in-Declare.is c.requires).text

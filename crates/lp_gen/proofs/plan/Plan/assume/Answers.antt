@@ -26,4 +26,4 @@ returns-clause-assumed c =
 pub returns-clause-captured : goal.returns-clause-captured
 returns-clause-captured c =
     let x : Assumption = record { clauses = c.args.clauses; base = c.args.base; captured = c.in_ok-captured.captured; first = c.len.result; count = length c.args.clauses.now } in
-    captured_more c.args.bank.now c.args.self.now.assumptions.items c.push.new.self.items x c.in_ok-push.ensures.items (c.in_ok-captured.ensures.all, c.in_ok-captured.ensures.found)
+    captured_more c.args.bank.now c.args.self.now.assumptions.items c.push.new.self.items x c.in_ok-push.ensures.items (c.in_ok-captured.ensures.all, c.in_ok-captured.ensures.found, c.in_ok-captured.ensures.distinct)

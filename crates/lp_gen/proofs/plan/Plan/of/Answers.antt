@@ -3,11 +3,11 @@ use Rattle.std.specs.Prelude.{slice_get}
 use Rattle.std.proofs.lemmas.Option.{slice_get_read}
 use Rattle.std.proofs.lemmas.List.{length-append}
 use Rattle.lp_gen.specs.declared.plan.Part.{Part}
-use Rattle.lp_gen.specs.inner.Planning.{origin_records, most_of, PlanStands}
+use Rattle.lp_gen.specs.inner.Planning.{PlanStands}
 use Rattle.lp_gen.proofs.AssumptionPut.{no_assumption}
 use Rattle.lp_gen.proofs.PlanParts.{plan_begins, plan_grows}
 use Rattle.lp_gen.proofs.RecordsCounted.{begins_counted, part_counted, all_counted, over_counted, most_few}
-use Rattle.lp_gen.proofs.Leveling.{first_low, low_behind, first_fits, more_fits, of_plan, memory_alone}
+use Rattle.lp_gen.proofs.Leveling.{first_low, low_behind, first_fits, more_fits}
 use Rattle.lp_gen.proofs.plan.Plan.of.Goals as goal
 
 pub parts-init : goal.parts-init

@@ -3,8 +3,8 @@ use Rattle.std.proofs.Common.{◌∷◌}
 use Rattle.lp_lemmas.proofs.Results.{passed_up}
 use Rattle.lp_gen.specs.inner.Variables.{IsFull}
 use Rattle.lp_gen.specs.inner.Planning.{todos, todo_of}
-use Rattle.lp_gen.proofs.PlanDone.{task_none, task_first, task_end, task_level}
-use Rattle.lp_gen.proofs.Leveling.{no_goal_leveled, first_leveled, first_full, first_spreads, no_goal_spreads, end_leveled, level_leveled, end_spreads, level_spreads}
+use Rattle.lp_gen.proofs.PlanDone.{task_none, task_first, task_end}
+use Rattle.lp_gen.proofs.Leveling.{no_goal_leveled, first_leveled, first_full, first_spreads, no_goal_spreads, end_leveled, end_spreads}
 use Rattle.lp_gen.proofs.plan.Plan.step.Goals as goal
 
 pub returns-in_default-clause-kept : goal.returns-in_default-clause-kept
@@ -24,11 +24,6 @@ pub returns-in_ok-push-in-End-clause-kept : goal.returns-in_ok-push-in-End-claus
 returns-in_ok-push-in-End-clause-kept c =
     task_end c.args.self.now.due.items c.args.self.now.assumptions.items c.args.walk.now.level c.args.walk.now.steps.items c.push-in-End.new.self.items (todos c.args.walk.now.tasks.items) c.args.task
     c.in-End.end c.in-End.level c.in-End.is c.in_ok-push-in-End.ensures.items
-
-pub returns-in-Level-clause-kept : goal.returns-in-Level-clause-kept
-returns-in-Level-clause-kept c =
-    task_level c.args.self.now.due.items c.args.self.now.assumptions.items c.args.walk.now.level c.args.walk.now.steps.items
-    (todos c.args.walk.now.tasks.items) c.args.task c.in-Level.level c.in-Level.is
 
 pub returns-in_default-clause-leveled : goal.returns-in_default-clause-leveled
 returns-in_default-clause-leveled c =
@@ -60,11 +55,3 @@ returns-in_ok-push-in-End-clause-leveled c =
 pub returns-in_ok-push-in-End-clause-dues : goal.returns-in_ok-push-in-End-clause-dues
 returns-in_ok-push-in-End-clause-dues c =
     end_spreads c.args.bank.now c.args.walk.now.level c.in-End.level c.args.self.now.due.items c.args.task c.in-End.end (todos c.args.walk.now.tasks.items) c.in-End.is
-
-pub returns-in-Level-clause-leveled : goal.returns-in-Level-clause-leveled
-returns-in-Level-clause-leveled c =
-    level_leveled c.args.bank.now c.args.walk.now.base c.args.walk.now.level c.in-Level.level c.args.task (todos c.args.walk.now.tasks.items) c.in-Level.is
-
-pub returns-in-Level-clause-dues : goal.returns-in-Level-clause-dues
-returns-in-Level-clause-dues c =
-    level_spreads c.args.bank.now c.args.walk.now.level c.in-Level.level c.args.self.now.due.items c.args.task (todos c.args.walk.now.tasks.items) c.in-Level.is

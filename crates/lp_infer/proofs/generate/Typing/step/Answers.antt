@@ -1,4 +1,5 @@
-use Rattle.std.proofs.Common.{sym, subst, length, List, ℕ}
+use Rattle.std.proofs.Common.{◌≤◌, sym, subst, length, List, ℕ}
+use Rattle.lp_infer.specs.inner.Parts.{takes, ends}
 use Rattle.std.specs.Prelude.{OnOk}
 use Rattle.std.proofs.lemmas.Result.{on_ok_weaker}
 use Rattle.lp_term.specs.Nodes.{type_tree}
@@ -51,3 +52,15 @@ pub returns-in-Apply : goal.returns-in-Apply
 returns-in-Apply c =
     subst (λ s. IsStep (length c.args.self.now.types.types) s → OnOk c.apply.result ((text : List ℕ) → Acts c.args.self.now c.apply.new.self (act (mark text c.args.signature.now.bank c.args.count (type_tree c.args.self.now.types) s)))) (sym c.in-Apply.is)
     (λ k. on_ok_weaker c.apply.result (λ h text. h) c.apply.ensures)
+
+pub variable-requires-clause-depth : goal.variable-requires-clause-depth
+variable-requires-clause-depth c = subst (IsStep (length c.args.self.now.types.types)) c.in-Variable.is c.requires.known
+
+pub close-requires-clause-parts : goal.close-requires-clause-parts
+close-requires-clause-parts c = subst (λ s. takes s ≤ length c.args.self.now.stack.items) c.in-Close.is c.requires.parts
+
+pub close-requires-clause-opened : goal.close-requires-clause-opened
+close-requires-clause-opened c = subst (λ s. ends s ≤ length c.args.self.now.context.items) c.in-Close.is c.requires.opened
+
+pub apply-requires : goal.apply-requires
+apply-requires c = subst (λ s. takes s ≤ length c.args.self.now.stack.items) c.in-Apply.is c.requires.parts

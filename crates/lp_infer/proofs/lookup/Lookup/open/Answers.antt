@@ -1,4 +1,4 @@
-use Rattle.std.proofs.Common.{subst, Some, None}
+use Rattle.std.proofs.Common.{◌^◌, ◌<◌, sym, subst, Some, None}
 use Rattle.lp_sig.specs.Pieces.{spelled}
 use Rattle.lp_infer.specs.Texts.{IsNoted}
 use Rattle.lp_infer.specs.Visits.{IsBegun}
@@ -22,3 +22,6 @@ returns-in_ok-outside-in-Some c = λ firsts.
     (c.in_ok-id-in-Some.ensures.grows firsts)
     (subst (NoteRead c.args.signature.now c.args.source.now (Some c.in-Some.raw) c.args.self.now c.annotation.new.self) c.in-Some-2.is (c.in_ok-id-in-Some.ensures.note firsts))
     (subst (λ w. IsBegun w (Some c.in-Some-2.id) c.annotation.new.self c.begin-in-Some.new.self c.in_ok-outside-in-Some.outside) c.spelled_at-in-Some.ensures c.in_ok-outside-in-Some.ensures)
+
+pub begin-requires-in-Some : goal.begin-requires-in-Some
+begin-requires-in-Some c = subst (λ s. s.depth < 2 ^ 63) (sym (c.in_ok-id-in-Some.ensures.grows c.requires.notes).scope) c.requires.depth

@@ -7,3 +7,6 @@ pub returns-clause-formed : goal.returns-clause-formed
 returns-clause-formed c = on_ok_weaker c.push.result (λ P types.
     head_forms c.args.bank.now c.put_index.new.bank types c.args.self.now c.push.new.self c.in_ok-head.head (index c.args.index) c.in_ok-head.ensures.kept
     (c.in_ok-head.ensures.within, c.in_ok-head.ensures.tree) P) c.push.ensures
+
+pub returns-clause-used : goal.returns-clause-used
+returns-clause-used c = on_ok_weaker c.push.result (λ P. P.used) c.push.ensures

@@ -11,3 +11,6 @@ returns-clause-formed c =
     on_ok_weaker c.push.result (λ P types.
     head_forms c.args.bank.now c.put_integer.new.bank types c.args.self.now c.push.new.self c.in_ok-head.head (atom (integer c.args.value)) c.in_ok-head.ensures.kept
     (c.in_ok-head.ensures.within, c.in_ok-head.ensures.tree ∙ ap (λ z. atom (integer z)) same) P) c.push.ensures
+
+pub returns-clause-used : goal.returns-clause-used
+returns-clause-used c = on_ok_weaker c.push.result (λ P. P.used) c.push.ensures

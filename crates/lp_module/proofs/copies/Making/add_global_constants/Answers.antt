@@ -68,3 +68,10 @@ returns-clause-names c =
     (λ l. AddsNames c.args.self.now c.loop-at.self [] (map (constant_as 0) (exported_among 32 c.args.root.now.module.now.hidden_constants.items l))
     (map (λ e. scheme_in (copy_of 0 c.args.root.now) (entry_scheme b e)) (exported_among 32 c.args.root.now.module.now.hidden_constants.items l)))
     (take_all c.loop-at.at c.args.root.now.module.now.signature.constants.items (omega (arith, m, c.loop-at-test.false, c.len-at-end.ensures, c.in_ok-places.places.ok, c.in_ok-places.ensures.count))) c.loop-at.invariant.2
+
+pub unreachable-requires : goal.unreachable-requires
+unreachable-requires c =
+    let h : c.loop-at.at < length c.constants.result.now = omega (arith, c.loop-at-test.true, c.len-at-end.ensures, c.in_ok-places.places.ok, c.in_ok-places.ensures.count) in
+    let m = ap length c.constants.ensures in
+    let n = ap length c.constants-in-loop-at.ensures in
+    omega (arith, h, m, n, c.in_default.ensures.lookup.3)

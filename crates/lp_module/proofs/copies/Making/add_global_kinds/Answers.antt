@@ -44,3 +44,8 @@ returns-clause-names c =
     let m = ap length c.kinds-kinds.ensures in
     subst (λ l. AddsNames c.args.self.now c.loop-at.self (map (kind_as 0) (exported_among 8 c.args.root.now.module.now.hidden_kinds.items l)) [] [])
     (take_all c.loop-at.at c.args.root.now.module.now.signature.kinds.items (omega (arith, m, c.loop-at-test.false, c.len-at-end.ensures, c.in_ok-places.places.ok, c.in_ok-places.ensures.count))) c.loop-at.invariant.1
+
+pub unreachable-requires : goal.unreachable-requires
+unreachable-requires c =
+    let h : c.loop-at.at < length c.kinds-kinds.result.now = omega (arith, c.loop-at-test.true, c.len-at-end.ensures, c.in_ok-places.places.ok, c.in_ok-places.ensures.count) in
+    omega (arith, h, c.in_default.ensures.lookup.3)

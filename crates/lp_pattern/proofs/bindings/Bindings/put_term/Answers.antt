@@ -3,8 +3,8 @@ use Rattle.indexmap.proofs.CallerLemmas.{insert_entry-new}
 use Rattle.lp_pattern.proofs.Keeps.{goes_on_same}
 use Rattle.lp_pattern.proofs.bindings.Bindings.put_term.Goals as goal
 
-pub returns-in-Ok-clause-made : goal.returns-in-Ok-clause-made
-returns-in-Ok-clause-made c = c.in-Ok.ensures.entries ∙ insert_entry-new nat_eq c.args.self.now.terms c.args.variable c.args.to c.requires
+pub returns-clause-made : goal.returns-clause-made
+returns-clause-made c = c.in_ok-insert.ensures.entries ∙ insert_entry-new nat_eq c.args.self.now.terms c.args.variable c.args.to c.requires
 
-pub returns-in-Ok-clause-grown : goal.returns-in-Ok-clause-grown
-returns-in-Ok-clause-grown c = record { terms = ((c.args.variable, c.args.to) ∷ [], returns-in-Ok-clause-made c); types = goes_on_same c.args.self.now.types.entries }
+pub returns-clause-grown : goal.returns-clause-grown
+returns-clause-grown c = record { terms = ((c.args.variable, c.args.to) ∷ [], returns-clause-made c); types = goes_on_same c.args.self.now.types.entries }

@@ -3,6 +3,7 @@ use Rattle.std.proofs.lemmas.Bool.{ltb-true}
 use Rattle.lp_sig.proofs.Reading.{never_open}
 use Rattle.std.proofs.Common.{◌≡◌, get_or, ap, ◌∙◌, ◌<◌, length, subst, sym, refl}
 use Rattle.lp_term.proofs.Trees.{extends_same}
+use Rattle.lp_sig.proofs.Heads.{has_constant}
 use Rattle.lp_sig.proofs.KnownConstants.{tree_standard, tree_declared, named_at}
 use Rattle.lp_sig.proofs.Constancy.{known_standard, known_new, known_typed, known_untyped, never_untyped}
 use Rattle.lp_sig.proofs.Worded.{met_standard, met_new, met_declared}
@@ -97,3 +98,24 @@ returns-in-None-clause-known_type c = λ words h.
     let at : x ≡ get_or c.args.self.now.constants.items c.in-Some-of.place x = c.in-Some-get.ensures.lookup.1 ∙ ap (λ xs. get_or xs c.in-Some-of.place x) c.deref.ensures.value in
     let m = named_at c.args.word.now c.args.self.now.constants.items c.in-Some-of.place x (sym (c.in-Some-of.ensures ∙ h.places c.args.word.now)) at in
     (x, m.0, c.in-None.is)
+
+pub returns-in_default-get-clause-is : goal.returns-in_default-get-clause-is
+returns-in_default-get-clause-is c = λ said defs rows k. absurd (has_constant c.args.self.now c.args.word.now c.in-Some-of.place c.deref.result.now k.places c.deref.ensures.value c.in-Some-of.ensures c.in_default-get.ensures.lookup.3)
+
+pub returns-in_default-get-clause-untyped : goal.returns-in_default-get-clause-untyped
+returns-in_default-get-clause-untyped c = λ is from z rows k typed first. absurd (cc)
+
+pub returns-in_default-get-clause-met : goal.returns-in_default-get-clause-met
+returns-in_default-get-clause-met c = λ words h. absurd (has_constant c.args.self.now c.args.word.now c.in-Some-of.place c.deref.result.now h.places c.deref.ensures.value c.in-Some-of.ensures c.in_default-get.ensures.lookup.3)
+
+pub returns-in_default-get-clause-tree : goal.returns-in_default-get-clause-tree
+returns-in_default-get-clause-tree c = λ words h all. absurd (has_constant c.args.self.now c.args.word.now c.in-Some-of.place c.deref.result.now h.places c.deref.ensures.value c.in-Some-of.ensures c.in_default-get.ensures.lookup.3)
+
+pub returns-in_default-get-clause-never : goal.returns-in_default-get-clause-never
+returns-in_default-get-clause-never c = λ is all. absurd (cc)
+
+pub returns-in_default-get-clause-known : goal.returns-in_default-get-clause-known
+returns-in_default-get-clause-known c = λ words h t is. absurd (cc)
+
+pub returns-in_default-get-clause-known_type : goal.returns-in_default-get-clause-known_type
+returns-in_default-get-clause-known_type c = λ words h. absurd (has_constant c.args.self.now c.args.word.now c.in-Some-of.place c.deref.result.now h.places c.deref.ensures.value c.in-Some-of.ensures c.in_default-get.ensures.lookup.3)

@@ -1,6 +1,5 @@
-use Rattle.std.proofs.Common.{sym, ◌∙◌, subst, length, []}
+use Rattle.std.proofs.Common.{sym, ◌∙◌, subst}
 use Rattle.std.specs.Prelude.{IfSome}
-use Rattle.lp_sig.specs.Modules.{first_names}
 use Rattle.lp_sig.specs.Sights.{IsSightOf}
 use Rattle.lp_sig.proofs.Sights.{signature_at, signature_sight}
 use Rattle.lp_sig.proofs.hearing.Said.sight_of_accum_sig.Goals as goal

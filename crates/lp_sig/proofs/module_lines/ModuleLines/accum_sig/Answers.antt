@@ -1,10 +1,9 @@
-use Rattle.std.proofs.Common.{◌≡◌, [], length, map, get_or, take_all, subst}
+use Rattle.std.proofs.Common.{◌≡◌, map, get_or, take_all, subst}
 use Rattle.std.specs.Prelude.{◌⊎◌, All}
 use Rattle.std.proofs.lemmas.List.Elements.{All-nil, All-more}
 use Rattle.lp_lemmas.proofs.Results.{passed_up}
 use Rattle.lp_sig.specs.Pieces.{spelled}
-use Rattle.lp_sig.specs.Modules.{first_names}
-use Rattle.lp_sig.specs.Sights.{IsAlike, signature_words, module_words}
+use Rattle.lp_sig.specs.Sights.{IsAlike, signature_words}
 use Rattle.lp_sig.specs.ModuleFaults.{IsWordTaken, IsWordRefused, AreSignaturesRefused, AreSignaturesTaken}
 use Rattle.lp_sig.specs.declared.fault.SigFault.TheVariants as fault
 use Rattle.lp_sig.specs.declared.module_fault.ModuleSigFault.TheVariants as wrong

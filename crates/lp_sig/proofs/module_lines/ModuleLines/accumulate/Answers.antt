@@ -28,7 +28,8 @@ loop-word-preserved c = record {
   taken = λ used ds given.
       let text = c.args.self.now.source.now in
       All-more (IsWordTaken c.args.self.now.own.now used text (length (first_names [] (signature_words text ds))) (module_words text ds)) c.args.words.now c.loop-word.word-index _ c.loop-word-test.true (c.loop-word.invariant.taken used ds given)
-      (told_taken c.args.self.now.own.now used text (length (first_names [] (signature_words text ds))) (module_words text ds) c.args.self.now.sights.now c.spelled_at.result.now (get_or c.args.words.now c.loop-word.word-index _) c.sight_of_accumulate-sight.result given.told c.spelled_at.ensures (c.sight_of_accumulate-sight.ensures.place (signature_words text ds) (module_words text ds) given.signatures given.modules) c.in_ok-check_word.ensures.alike);
+      (told_taken c.args.self.now.own.now used text (length (first_names [] (signature_words text ds))) (module_words text ds) c.args.self.now.sights.now c.spelled_at.result.now (get_or c.args.words.now c.loop-word.word-index _) c.sight_of_accumulate-sight.result given.told c.spelled_at.ensures
+      (c.sight_of_accumulate-sight.ensures.place (signature_words text ds) (module_words text ds) given.signatures given.modules) c.in_ok-check_word.ensures.alike);
 }
 
 pub returns-clause-alike : goal.returns-clause-alike
@@ -46,4 +47,5 @@ returns-in_err-check_word-clause-refused c = λ used ds given.
     passed_up c.from_residual.result c.in_err-check_word.field-0.0 (λ e. (e ≡ wrong.Sig fault.Memory) ⊎ AreModulesRefused c.args.self.now.own.now used text ds c.args.words.now e) c.from_residual.ensures.1
     (first_or (IsWordRefused c.args.self.now.own.now used text (length (first_names [] (signature_words text ds))) (module_words text ds)) (IsWordTaken c.args.self.now.own.now used text (length (first_names [] (signature_words text ds))) (module_words text ds)) c.args.words.now c.loop-word.word-index _ c.in_err-check_word.field-0.0 (wrong.Sig fault.Memory)
     c.loop-word-test.true (c.loop-word.invariant.taken used ds given)
-    (told_refused c.args.self.now.own.now used text (length (first_names [] (signature_words text ds))) (module_words text ds) c.args.self.now.sights.now c.spelled_at.result.now _ c.sight_of_accumulate-sight.result given.told c.spelled_at.ensures (c.sight_of_accumulate-sight.ensures.place (signature_words text ds) (module_words text ds) given.signatures given.modules) c.in_err-check_word.field-0.0 (wrong.Sig fault.Memory) c.in_err-check_word.ensures.refused))
+    (told_refused c.args.self.now.own.now used text (length (first_names [] (signature_words text ds))) (module_words text ds) c.args.self.now.sights.now c.spelled_at.result.now _ c.sight_of_accumulate-sight.result given.told c.spelled_at.ensures
+    (c.sight_of_accumulate-sight.ensures.place (signature_words text ds) (module_words text ds) given.signatures given.modules) c.in_err-check_word.field-0.0 (wrong.Sig fault.Memory) c.in_err-check_word.ensures.refused))

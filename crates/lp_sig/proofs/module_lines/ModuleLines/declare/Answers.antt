@@ -19,8 +19,8 @@ use Rattle.lp_sig.specs.Words.{IsKindsFault, AreMeant, AreNumbered, IsSoundType}
 use Rattle.lp_sig.specs.Modules.{constant_names_in}
 use Rattle.lp_sig.specs.ModuleFaults.{exports_kind, exports_constant, blamed_by, kind_names_in, AreLocalKindsRefused, AreLocalKindsTaken, AreConstantsWrong, AreLocalsRefused, AreLocalsTaken, IsAbbreviationWrong, AreModulesRefused, AreModulesTaken, AreSignaturesRefused, AreSignaturesTaken, IsLineFault, IsLineTaken}
 use Rattle.lp_sig.specs.declared.fault.SigFault.{SigFault}
-use Rattle.lp_sig.specs.Differing.{HasNameCause, IsOtherIf, IsOtherBodyIf}
-use Rattle.lp_sig.specs.ModuleFaults.{HaveLocalsCause, AreLocalsOtherIf, HasLineCause, IsLineOtherIf}
+use Rattle.lp_sig.specs.Differing.{HasNameCause, HasTypeCause, IsOtherBodyIf}
+use Rattle.lp_sig.specs.ModuleFaults.{HaveLocalsCause, HaveLocalsTypeCause, HasLineCause, HasLineTypeCause}
 use Rattle.lp_sig.proofs.Taking.{err_with, its_taken, takes_same, takes_none}
 use Rattle.lp_sig.proofs.module_lines.ModuleLines.declare.Goals as goal
 
@@ -233,7 +233,7 @@ pub returns-in-Kinds-clause-full : goal.returns-in-Kinds-clause-full
 returns-in-Kinds-clause-full c = λ said words k h. err_with c.kinds.result _ (λ e. subst (λ d. HasLineCause c.args.self.now.own.now c.args.self.now.source.now words d e) (sym c.in-Kinds.is) tt)
 
 pub returns-in-Kinds-clause-other : goal.returns-in-Kinds-clause-other
-returns-in-Kinds-clause-other c = λ said defs given rows words r. err_with c.kinds.result _ (λ e. subst (λ d. IsLineOtherIf c.args.self.now.own.now c.args.self.now.source.now said defs given rows d e) (sym c.in-Kinds.is) tt)
+returns-in-Kinds-clause-other c = λ said defs given rows words r. err_with c.kinds.result _ (λ e. subst (λ d. HasLineTypeCause c.args.self.now.own.now c.args.self.now.source.now said defs given rows d e) (sym c.in-Kinds.is) tt)
 
 pub returns-in-Kinds-clause-takes : goal.returns-in-Kinds-clause-takes
 returns-in-Kinds-clause-takes c = on_ok_always c.kinds.result _ (its_taken c.args.making.now c.args.making.now c.args.self.now.source.now c.args.declaration.now _ [] [] c.in-Kinds.is refl refl (takes_same c.args.making.now))
@@ -242,7 +242,7 @@ pub returns-in-LocalKinds-clause-full : goal.returns-in-LocalKinds-clause-full
 returns-in-LocalKinds-clause-full c = λ said words k h. err_with c.local_kinds_of.result _ (λ e. subst (λ d. HasLineCause c.args.self.now.own.now c.args.self.now.source.now words d e) (sym c.in-LocalKinds.is) tt)
 
 pub returns-in-LocalKinds-clause-other : goal.returns-in-LocalKinds-clause-other
-returns-in-LocalKinds-clause-other c = λ said defs given rows words r. err_with c.local_kinds_of.result _ (λ e. subst (λ d. IsLineOtherIf c.args.self.now.own.now c.args.self.now.source.now said defs given rows d e) (sym c.in-LocalKinds.is) tt)
+returns-in-LocalKinds-clause-other c = λ said defs given rows words r. err_with c.local_kinds_of.result _ (λ e. subst (λ d. HasLineTypeCause c.args.self.now.own.now c.args.self.now.source.now said defs given rows d e) (sym c.in-LocalKinds.is) tt)
 
 pub returns-in-LocalKinds-clause-takes : goal.returns-in-LocalKinds-clause-takes
 returns-in-LocalKinds-clause-takes c = on_ok_always c.local_kinds_of.result _ (its_taken c.args.making.now c.args.making.now c.args.self.now.source.now c.args.declaration.now _ [] [] c.in-LocalKinds.is refl refl (takes_same c.args.making.now))
@@ -252,14 +252,14 @@ returns-in-Abbreviation-clause-full c = λ said words k h. err_with c.abbreviati
 
 pub returns-in-Abbreviation-clause-other : goal.returns-in-Abbreviation-clause-other
 returns-in-Abbreviation-clause-other c = λ said defs given rows words r. IfErr-weaker c.abbreviation.result _ _
-    (λ e f. subst (λ d. IsLineOtherIf c.args.self.now.own.now c.args.self.now.source.now said defs given rows d e) (sym c.in-Abbreviation.is)
+    (λ e f. subst (λ d. HasLineTypeCause c.args.self.now.own.now c.args.self.now.source.now said defs given rows d e) (sym c.in-Abbreviation.is)
     (subst (λ ns. (f : SigFault) × (e ≡ blamed_by (exports_kind c.args.self.now.own.now) c.args.self.now.source.now f) × IsOtherBodyIf c.args.self.now.source.now said defs c.in-Abbreviation.name ns c.in-Abbreviation.raw f) c.as_slice-in-Abbreviation.ensures.value f)) (c.abbreviation.ensures.other said defs r.knows r.holds)
 
 pub returns-in-Accumulate-clause-full : goal.returns-in-Accumulate-clause-full
 returns-in-Accumulate-clause-full c = λ said words k h. err_with c.accumulate.result _ (λ e. subst (λ d. HasLineCause c.args.self.now.own.now c.args.self.now.source.now words d e) (sym c.in-Accumulate.is) tt)
 
 pub returns-in-Accumulate-clause-other : goal.returns-in-Accumulate-clause-other
-returns-in-Accumulate-clause-other c = λ said defs given rows words r. err_with c.accumulate.result _ (λ e. subst (λ d. IsLineOtherIf c.args.self.now.own.now c.args.self.now.source.now said defs given rows d e) (sym c.in-Accumulate.is) tt)
+returns-in-Accumulate-clause-other c = λ said defs given rows words r. err_with c.accumulate.result _ (λ e. subst (λ d. HasLineTypeCause c.args.self.now.own.now c.args.self.now.source.now said defs given rows d e) (sym c.in-Accumulate.is) tt)
 
 pub returns-in-Accumulate-clause-takes : goal.returns-in-Accumulate-clause-takes
 returns-in-Accumulate-clause-takes c = on_ok_always c.accumulate.result _ (its_taken c.args.making.now c.args.making.now c.args.self.now.source.now c.args.declaration.now _ [] [] c.in-Accumulate.is refl refl (takes_same c.args.making.now))
@@ -268,7 +268,7 @@ pub returns-in-AccumSig-clause-full : goal.returns-in-AccumSig-clause-full
 returns-in-AccumSig-clause-full c = λ said words k h. err_with c.accum_sig.result _ (λ e. subst (λ d. HasLineCause c.args.self.now.own.now c.args.self.now.source.now words d e) (sym c.in-AccumSig.is) tt)
 
 pub returns-in-AccumSig-clause-other : goal.returns-in-AccumSig-clause-other
-returns-in-AccumSig-clause-other c = λ said defs given rows words r. err_with c.accum_sig.result _ (λ e. subst (λ d. IsLineOtherIf c.args.self.now.own.now c.args.self.now.source.now said defs given rows d e) (sym c.in-AccumSig.is) tt)
+returns-in-AccumSig-clause-other c = λ said defs given rows words r. err_with c.accum_sig.result _ (λ e. subst (λ d. HasLineTypeCause c.args.self.now.own.now c.args.self.now.source.now said defs given rows d e) (sym c.in-AccumSig.is) tt)
 
 pub returns-in-AccumSig-clause-takes : goal.returns-in-AccumSig-clause-takes
 returns-in-AccumSig-clause-takes c = on_ok_always c.accum_sig.result _ (its_taken c.args.making.now c.args.making.now c.args.self.now.source.now c.args.declaration.now _ [] [] c.in-AccumSig.is refl refl (takes_same c.args.making.now))
@@ -287,8 +287,8 @@ returns-in-Constants-clause-full c = λ said words k h. IfErr-weaker c.constants
 
 pub returns-in-Constants-clause-other : goal.returns-in-Constants-clause-other
 returns-in-Constants-clause-other c = λ said defs given rows words r. IfErr-weaker c.constants.result _ _
-    (λ e f. subst (λ d. IsLineOtherIf c.args.self.now.own.now c.args.self.now.source.now said defs given rows d e) (sym c.in-Constants.is)
-    (subst (λ ns. (f : SigFault) × (e ≡ blamed_by (exports_constant c.args.self.now.own.now) c.args.self.now.source.now f) × IsOtherIf c.args.self.now.source.now said defs given rows ns c.in-Constants.raw f) c.as_slice-in-Constants.ensures.value f)) (c.constants.ensures.other said defs given rows words r)
+    (λ e f. subst (λ d. HasLineTypeCause c.args.self.now.own.now c.args.self.now.source.now said defs given rows d e) (sym c.in-Constants.is)
+    (subst (λ ns. (f : SigFault) × (e ≡ blamed_by (exports_constant c.args.self.now.own.now) c.args.self.now.source.now f) × HasTypeCause c.args.self.now.source.now said defs given rows ns c.in-Constants.raw f) c.as_slice-in-Constants.ensures.value f)) (c.constants.ensures.other said defs given rows words r)
 
 pub returns-in-Constants-clause-takes : goal.returns-in-Constants-clause-takes
 returns-in-Constants-clause-takes c = on_ok_weaker c.constants.result (λ h. its_taken c.args.making.now c.constants.new.making c.args.self.now.source.now c.args.declaration.now _ _ _ c.in-Constants.is
@@ -300,7 +300,7 @@ returns-in-Locals-clause-full c = λ said words k h. IfErr-weaker c.locals_typed
 
 pub returns-in-Locals-clause-other : goal.returns-in-Locals-clause-other
 returns-in-Locals-clause-other c = λ said defs given rows words r. IfErr-weaker c.locals_typed.result _ _
-    (λ e f. subst (λ d. IsLineOtherIf c.args.self.now.own.now c.args.self.now.source.now said defs given rows d e) (sym c.in-Locals.is) (subst (λ ns. AreLocalsOtherIf c.args.self.now.source.now said defs given rows ns c.in-Locals.raw e) c.as_slice-in-Locals.ensures.value f))
+    (λ e f. subst (λ d. HasLineTypeCause c.args.self.now.own.now c.args.self.now.source.now said defs given rows d e) (sym c.in-Locals.is) (subst (λ ns. HaveLocalsTypeCause c.args.self.now.source.now said defs given rows ns c.in-Locals.raw e) c.as_slice-in-Locals.ensures.value f))
     (c.locals_typed.ensures.other said defs given rows words r)
 
 pub returns-in-Locals-clause-takes : goal.returns-in-Locals-clause-takes

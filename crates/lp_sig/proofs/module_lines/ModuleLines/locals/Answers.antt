@@ -7,10 +7,12 @@ use Rattle.lp_sig.specs.ModuleFaults as faults
 use Rattle.std.proofs.Common.{◌≡◌}
 use Rattle.lp_lemmas.proofs.Results.{on_ok_both}
 use Rattle.lp_sig.specs.Constants.{written_in}
-use Rattle.lp_sig.specs.Differing.{IsOtherIf}
+use Rattle.lp_sig.specs.Differing.{HasTypeCause}
 use Rattle.lp_sig.specs.declared.fault.SigFault.{SigFault}
 use Rattle.lp_sig.specs.declared.module_fault.ModuleSigFault.TheVariants as wrong
-use Rattle.lp_sig.proofs.Taking.{told_cause, told_not_other, other_written, typed_inside, takes_typed}
+use Rattle.lp_sig.specs.Limits.{IsShort}
+use Rattle.lp_sig.specs.ModuleFaults.{exports_constant, IsLocal}
+use Rattle.lp_sig.proofs.Taking.{err_both, told_cause, told_type_cause, local_not_long, other_written, typed_inside, takes_typed}
 use Rattle.lp_sig.proofs.module_lines.ModuleLines.locals.Goals as goal
 
 pub returns-in-Ok-clause-grown : goal.returns-in-Ok-clause-grown
@@ -47,7 +49,8 @@ pub returns-in-Err-clause-full : goal.returns-in-Err-clause-full
 returns-in-Err-clause-full c = λ said words k h f e. told_cause c.args.self.now.source.now words c.args.names.now said c.args.raw.now c.in-Err.fault f (c.in-Err.ensures.reason said k) (c.wrong_locals.ensures.told f e)
 
 pub returns-in-Err-clause-other : goal.returns-in-Err-clause-other
-returns-in-Err-clause-other c = λ said defs given rows words r f e z is. absurd (told_not_other c.args.self.now.source.now said c.args.raw.now c.in-Err.fault f z (c.in-Err.ensures.reason said r.knows) (c.wrong_locals.ensures.told f e) is)
+returns-in-Err-clause-other c = λ said defs given rows words r f e.
+    told_type_cause c.args.self.now.source.now said defs c.args.raw.now given rows c.args.names.now c.in-Err.fault f (c.in-Err.ensures.reason said r.knows) (c.in-Err.ensures.exact said defs r.knows r.holds) (c.wrong_locals.ensures.told f e)
 
 pub returns-in-Ok-clause-full : goal.returns-in-Ok-clause-full
 returns-in-Ok-clause-full c = λ said words k h. c.locals_of.ensures.full words h
@@ -55,13 +58,15 @@ returns-in-Ok-clause-full c = λ said words k h. c.locals_of.ensures.full words 
 pub returns-in-Ok-clause-other : goal.returns-in-Ok-clause-other
 returns-in-Ok-clause-other c = λ said defs given rows words r.
     let text = c.args.self.now.source.now in
+    let names = c.args.names.now in
     let b = c.args.making.now.bodies.types.bank in
     let mid = c.scheme.new.self.types.bank in
     let now = c.locals_of.new.making.bodies.types.bank in
     let typed = c.in-Ok.ensures.typed said defs r.knows r.holds in
-    IfErr-weaker c.locals_of.result _ (λ e. (f : SigFault) → e ≡ wrong.Sig f → IsOtherIf text said defs given rows c.args.names.now c.args.raw.now f)
-    (λ e g f is. other_written b mid now c.args.making.now.constants said defs given rows text c.args.names.now c.args.raw.now c.in-Ok.declared f (extends-trans b mid now c.scheme.ensures.kept c.locals_of.ensures.bank) c.locals_of.ensures.bank r.types typed (g f is))
-    (c.locals_of.ensures.other words (typed_inside mid said defs (written_in text c.args.raw.now) c.in-Ok.declared typed) r.met)
+    err_both c.locals_of.result _ _ (λ e. (f : SigFault) → e ≡ wrong.Sig f → HasTypeCause text said defs given rows names c.args.raw.now f)
+    (λ e g n f is. other_written b mid now c.args.making.now.constants said defs given rows text names c.args.raw.now c.in-Ok.declared f (extends-trans b mid now c.scheme.ensures.kept c.locals_of.ensures.bank) c.locals_of.ensures.bank r.types typed (g f is)
+    (local_not_long (exports_constant c.args.self.now.own.now) text (IsLocal (exports_constant c.args.self.now.own.now) text (IsShort text)) names e f n is))
+    (c.locals_of.ensures.other words (typed_inside mid said defs (written_in text c.args.raw.now) c.in-Ok.declared typed) r.met) c.locals_of.ensures.refused
 
 pub returns-in-Ok-clause-takes : goal.returns-in-Ok-clause-takes
 returns-in-Ok-clause-takes c = on_ok_both c.locals_of.result c.locals_of.ensures.adds c.locals_of.ensures.words (λ adds words.

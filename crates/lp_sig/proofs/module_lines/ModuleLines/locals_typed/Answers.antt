@@ -9,7 +9,7 @@ use Rattle.std.proofs.lemmas.Result.{IfErr-weaker, IfOk-weaker}
 use Rattle.lp_sig.specs.ModuleFaults.{AreLocalsRefused, AreLocalsTaken}
 use Rattle.lp_sig.specs.declared.fault.SigFault.TheVariants as fault
 use Rattle.lp_sig.specs.declared.module_fault.ModuleSigFault.TheVariants as wrong
-use Rattle.lp_sig.specs.ModuleFaults.{HaveLocalsCause, AreLocalsOtherIf}
+use Rattle.lp_sig.specs.ModuleFaults.{HaveLocalsCause, HaveLocalsTypeCause}
 use Rattle.lp_sig.proofs.Taking.{err_with, local_taken, takes_same}
 use Rattle.lp_sig.proofs.module_lines.ModuleLines.locals_typed.Goals as goal
 
@@ -60,10 +60,10 @@ returns-in-None-clause-full c = λ said words k h. err_with c.known_constants.re
 
 pub returns-in-Some-clause-other : goal.returns-in-Some-clause-other
 returns-in-Some-clause-other c = λ said defs given rows words r. IfErr-weaker c.locals.result _ _
-    (λ e f. subst (λ o. AreLocalsOtherIf c.args.self.now.source.now said defs given rows c.args.names.now o e) (sym c.in-Some.is) f) (c.locals.ensures.other said defs given rows words r)
+    (λ e f. subst (λ o. HaveLocalsTypeCause c.args.self.now.source.now said defs given rows c.args.names.now o e) (sym c.in-Some.is) f) (c.locals.ensures.other said defs given rows words r)
 
 pub returns-in-None-clause-other : goal.returns-in-None-clause-other
-returns-in-None-clause-other c = λ said defs given rows words r. err_with c.known_constants.result _ (λ e. subst (λ o. AreLocalsOtherIf c.args.self.now.source.now said defs given rows c.args.names.now o e) (sym c.in-None.is) tt)
+returns-in-None-clause-other c = λ said defs given rows words r. err_with c.known_constants.result _ (λ e. subst (λ o. HaveLocalsTypeCause c.args.self.now.source.now said defs given rows c.args.names.now o e) (sym c.in-None.is) tt)
 
 pub returns-in-Some-clause-takes : goal.returns-in-Some-clause-takes
 returns-in-Some-clause-takes c = on_ok_weaker c.locals.result (λ h. local_taken c.args.making.now c.locals.new.making c.args.self.now.source.now c.args.names.now c.args.raw.now _ c.in-Some.is h) c.locals.ensures.takes

@@ -1,5 +1,4 @@
-use Rattle.std.proofs.Common.{◌≡◌, refl, sym, ◌∙◌, inl, inr}
-use Rattle.lp_sig.specs.declared.fault.SigFault.TheVariants as fault
+use Rattle.std.proofs.Common.{◌≡◌, ap, sym, ◌∙◌, inl, inr}
 use Rattle.lp_sig.specs.declared.module_fault.ModuleSigFault.TheVariants as wrong
 use Rattle.lp_sig.proofs.Taking.{sig_is}
 use Rattle.lp_sig.specs.ModuleFaults.{IsTypeFault}
@@ -8,7 +7,7 @@ use Rattle.lp_sig.proofs.Refusing.{its_reason}
 use Rattle.lp_sig.proofs.module_lines.ModuleLines.wrong_locals.Goals as goal
 
 pub returns-then-is_memory-clause-wrong : goal.returns-then-is_memory-clause-wrong
-returns-then-is_memory-clause-wrong c = λ said raw why. inl refl
+returns-then-is_memory-clause-wrong c = λ said raw why. inl (ap wrong.Sig (c.is_memory.ensures.memory c.if-is_memory.true))
 
 pub returns-in-Err-clause-wrong : goal.returns-in-Err-clause-wrong
 returns-in-Err-clause-wrong c = λ said raw why. inr (faults.local_exported c.args.fault (its_reason c.args.fault
@@ -19,7 +18,7 @@ returns-in-Ok-clause-wrong c = λ said raw why. inr (c.wrong_type.ensures.wrong 
     (IsTypeFault c.args.self.now.source.now said raw c.args.fault) (c.is_memory.ensures.another c.if-is_memory.false) why) c.in-Ok.ensures.taken)
 
 pub returns-then-is_memory-clause-told : goal.returns-then-is_memory-clause-told
-returns-then-is_memory-clause-told c = λ f e. inl (sym (sig_is fault.Memory f e))
+returns-then-is_memory-clause-told c = λ f e. inl (sym (sig_is c.args.fault f e) ∙ c.is_memory.ensures.memory c.if-is_memory.true)
 
 pub returns-in-Err-clause-told : goal.returns-in-Err-clause-told
 returns-in-Err-clause-told c = λ f e. absurd (let z : wrong.Exported c.in-Err.ensures.refused.name ≡ wrong.Sig f = sym c.in-Err.ensures.refused.refused.1 ∙ e in cc)

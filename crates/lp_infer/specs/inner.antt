@@ -1,0 +1,3 @@
+-- What the loops of the crate keep.
+pub mod Parts
+pub mod Turns

@@ -1,0 +1,2 @@
+-- What only loops keep.
+pub mod Falling
