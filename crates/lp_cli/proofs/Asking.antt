@@ -56,15 +56,15 @@ module _ (words : List (List ℕ)) (a : Asked) (is : asked words ≡ Some a) whe
     pub fulfils_asked : (x : Asked) → asked words ≡ Some x → Fulfils (held f) (held g) seen (written o) (written p) x result
     fulfils_asked x h = subst (λ y. Fulfils (held f) (held g) seen (written o) (written p) y result) (some_is is h) d.fulfils
 
--- a run that ends with none of the statuses of a command that was carried out; a query is refused so
+-- a run that ends for want of memory, and so with none of the statuses of a command that was carried out; a query is refused so
 module _ (told now : Option Held) (seen : List Seen) (before after : Option (List ℕ)) (result : Status) (not_done : result ≢ variant.Done) (not_no : result ≢ variant.No)
-    (not_deep : result ≢ variant.Deep) (no_file : has_file result ≡ true → ⊥)
+    (not_deep : result ≢ variant.Deep) (no_file : has_file result ≡ true → ⊥) (kept : result ≢ variant.WriteFault → result ≡ variant.Memory)
     (refused : (name query : List ℕ) (options : Options) → Solves told name query options seen before after result) where
   pub fulfils_none : (x : Asked) → Fulfils told now seen before after x result
   fulfils_none (lambda name query) = record { yes = λ e. absurd (not_done e); no = λ e. absurd (not_no e) }
   fulfils_none (check name query) = record { accepted = λ e. absurd (not_done e); rejected = λ e. absurd (not_no e); deep = λ e. absurd (not_deep e) }
   fulfils_none (prove name query options) = λ f. absurd (no_file f)
-  fulfils_none (files command name) = λ e. absurd (not_done e)
+  fulfils_none (files command name) = record { made = λ e. absurd (not_done e); refused = λ d w m. absurd (m (kept w)) }
   fulfils_none (solve name query options) = refused name query options
   fulfils_none (query_image name query options) = tt
   fulfils_none (trial size) = tt
@@ -93,5 +93,5 @@ fulfils_memory told now seen before after result wrote began x =
     let kept : result ≢ variant.WriteFault → result ≡ variant.Memory = λ n. (wrote n).0 in
     fulfils_none told now seen before after result
     (not_otherwise result variant.Memory variant.Done kept (λ f. cc) (λ f. cc)) (not_otherwise result variant.Memory variant.No kept (λ f. cc) (λ f. cc))
-    (not_otherwise result variant.Memory variant.Deep kept (λ f. cc) (λ f. cc)) (no_file_of variant.Memory result refl kept)
+    (not_otherwise result variant.Memory variant.Deep kept (λ f. cc) (λ f. cc)) (no_file_of variant.Memory result refl kept) kept
     (wanting_solves told seen before after result wrote began) x
