@@ -129,8 +129,10 @@ pub one_unread : (os : List Object) (user place at : ℕ) (o : Object) (u name :
     name.items ≡ u.items → first_place u.items (names_of os) ≡ None → AreSkipped os (names_from os user place) (names_from os user at) → IsUnread os user place (Some (at + 1, name))
 one_unread os user place at o u name there l is same none h = (
   subst (λ n. AreSkipped os (names_from os user place) (n ∷ names_from os user (at + 1))) (sym same) (subst (AreSkipped os (names_from os user place)) (use_of os user at o u there l is) h),
-  ((o, there, subst (Contains (uses_of o)) (sym same) (contains_at o.uses.items at u (slice_get-get_or o.uses.items at u l ∙ ap Some (sym is)))),
-  λ k. not_named u.items os none (subst (HasName os) same k)),
+  (
+    (o, there, subst (Contains (uses_of o)) (sym same) (contains_at o.uses.items at u (slice_get-get_or o.uses.items at u l ∙ ap Some (sym is)))),
+    λ k. not_named u.items os none (subst (HasName os) same k),
+  ),
 )
 
 -- the objects that wait
@@ -153,9 +155,9 @@ pub wait_next : (os : List Object) (begun waiting ws new : List (ℕ × ℕ)) (u
     IsUnread os user place (Some (next, name)) → AreSkipped os (left_of os begun) (left_of os waiting) → IsNext os begun new (Some (user, name))
 wait_next os begun waiting ws new user place next name e f (h, is_new) k = (
   then_skipped os (left_of os begun) (left_of os waiting) (name.items ∷ left_of os new) k
-  (subst (λ l. AreSkipped os l (name.items ∷ left_of os new)) (sym (left_last os waiting ws user place e))
-  (subst (λ l. AreSkipped os (names_from os user place ++ left_of os ws) (name.items ∷ l)) (sym (left_last os new ws user next f))
-  (skipped_before os (names_from os user place) (name.items ∷ names_from os user next) (left_of os ws) h))),
+      (subst (λ l. AreSkipped os l (name.items ∷ left_of os new)) (sym (left_last os waiting ws user place e))
+      (subst (λ l. AreSkipped os (names_from os user place ++ left_of os ws) (name.items ∷ l)) (sym (left_last os new ws user next f))
+      (skipped_before os (names_from os user place) (name.items ∷ names_from os user next) (left_of os ws) h))),
   is_new,
 )
 

@@ -9,5 +9,4 @@ pub fn objects_in_order_are_all_that_are_used()
     ensures first { (root : List ℕ) (os : List Object) → AreInOrder root os → BeginsNamed root os }
     ensures used { (root : List ℕ) (os : List Object) → AreInOrder root os → HaveUsed os }
     ensures once { (root : List ℕ) (os : List Object) → AreInOrder root os → AreUsedOnce os }
-{
-}
+{}
