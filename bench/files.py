@@ -4,7 +4,7 @@
     files.py [PROGRAM]      the program is ../lprolog, if none is named
 
 Rows, each in a new folder: a module of 5,000, 10,000 and 20,000 clauses, compiled, linked, and read, verified and written again (`migrate`);
-the link of 1,000 and of 4,000 copies of a module with 30 hidden names. Processor seconds and greatest memory of each command, and the bytes of
+the link of 1,000 and of 4,000 copies of a module with 30 hidden names, and of as many with 66, whose image has nearly as many bytes as one may have; each such image read, verified and asked (`query`), and written again. Processor seconds and greatest memory of each command, and the bytes of
 the file that it writes. Twice the clauses should take twice the time.
 """
 import os
@@ -28,13 +28,13 @@ def clauses(folder, count):
             file.write(f"q X Y :- p X c{number % names}, p c{number * 3 % names} Y.\n")
 
 
-def copies(folder, count):
+def copies(folder, count, names):
     """A root that accumulates modules which each accumulate the same one many times: a module of a list has at most so many words on a line as it likes."""
     with open(f"{folder}/leaf.sig", "w") as file:
         file.write("sig leaf.\ntype out o.\n")
     with open(f"{folder}/leaf.mod", "w") as file:
-        file.write("module leaf.\n" + "".join(f"local h{number} o.\n" for number in range(30)) + "out :- h0.\n")
-        file.writelines(f"h{number} :- h{number + 1}.\n" for number in range(29))
+        file.write("module leaf.\n" + "".join(f"local h{number} o.\n" for number in range(names)) + "out :- h0.\n")
+        file.writelines(f"h{number} :- h{number + 1}.\n" for number in range(names - 1))
     with open(f"{folder}/many.sig", "w") as file:
         file.write("sig many.\ntype out o.\n")
     with open(f"{folder}/many.mod", "w") as file:
@@ -73,12 +73,15 @@ def main(words):
             row(program, folder, f"{count} clauses", ["compile", "big"], "big.lpo")
             row(program, folder, f"{count} clauses", ["link", "big"], "big.lp")
             row(program, folder, f"{count} clauses", ["migrate", "big"], "big.lp")
-    for count in (1000, 4000):
+    for count, names in ((1000, 30), (4000, 30), (4000, 66)):
         with tempfile.TemporaryDirectory() as folder:
-            copies(folder, count)
+            copies(folder, count, names)
             for name in ("leaf", "many"):
                 subprocess.run([program, "compile", name], cwd=folder, stdout=subprocess.DEVNULL)
-            row(program, folder, f"{count} copies, 30 hidden names each", ["link", "many"], "many.lp")
+            title = f"{count} copies, {names} hidden names each"
+            row(program, folder, title, ["link", "many"], "many.lp")
+            row(program, folder, title, ["query", "many", "true"], "many.lp")
+            row(program, folder, title, ["migrate", "many"], "many.lp")
 
 
 if __name__ == "__main__":
