@@ -3,3 +3,4 @@ pub mod Reading
 pub mod Taking
 pub mod Noting
 pub mod Telling
+pub mod Inside

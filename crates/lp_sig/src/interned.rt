@@ -9,7 +9,7 @@ ghost use Rattle.lp_sig.specs.Schemes.{first_variables, IsOnWay, IsOpened};
 ghost use Rattle.indexmap.specs.IndexMap.{get};
 ghost use Rattle.lp_sig.specs.declared.interned.Task.TheVariants.{Visit};
 
-use crate::store::{Types, are_known};
+use crate::store::Types;
 use indexmap::{IndexMap, IndexSet};
 use lp_base::Memory;
 use lp_term::{TypeId, TypeNode};
@@ -40,9 +40,19 @@ impl Types {
         ensures kept { Extends self.old.bank self.new.bank }
         ensures tree { IfOk result (λ id. (id.0 < length self.new.bank.types) × (type_tree self.new.bank id.0 ≡ instance (filled self.old.bank args.now) (type_tree self.old.bank body.0))) }
     {
-        if body.0 >= self.bank.type_count() || !are_known(&self.bank, args) {
-            return Err(Memory);
-        }
+        let count = self.bank.type_count();
+        let root = self.inside(body, count)?;
+        let given = self.all_inside(args, count)?;
+        self.copied(root, given.as_slice())
+    }
+
+    // The same, of types that stand in the bank.
+    fn copied(&mut self, body: TypeId, args: &[TypeId]) -> Result<TypeId, Memory>
+        requires body { body.0 < length self.old.bank.types }
+        requires args { All (λ i. i < length self.old.bank.types) (map (λ t. t.0) args.now) }
+        ensures kept { Extends self.old.bank self.new.bank }
+        ensures tree { IfOk result (λ id. (id.0 < length self.new.bank.types) × (type_tree self.new.bank id.0 ≡ instance (filled self.old.bank args.now) (type_tree self.old.bank body.0))) }
+    {
         let mut made = IndexMap::new(self.alloc);
         let mut work = Vec::new(self.alloc);
         work.push(Task::Visit(body))?;

@@ -1,6 +1,6 @@
 use Rattle.lp_term.specs.Nodes.{Extends}
 use Rattle.lp_sig.specs.Copying.{left, AreInRange, AreCopies}
-use Rattle.lp_sig.proofs.store.Types.instance.Given as goal
+use Rattle.lp_sig.proofs.store.Types.copied.Given as goal
 
 abbrev pub invariant-tasks : goal.invariant-tasks
 invariant-tasks l = record {
