@@ -1,7 +1,7 @@
 // Types of which each stands once in a bank, so that equal types have equal numbers.
 
 ghost use Rattle.std.specs.Prelude.{◌≡◌, ◌≢◌, ◌<◌, length, map, true, false, All, AllPairs, IfOk};
-ghost use Rattle.lp_calculus.specs.Types.{var, con, arrow, tys};
+ghost use Rattle.lp_calculus.specs.Types.{var, param, con, arrow, tys};
 ghost use Rattle.lp_term.specs.Node.{TypeBelow};
 ghost use Rattle.lp_term.specs.Shapes.{type_shape};
 ghost use Rattle.lp_term.specs.Nodes.{Nodes, Extends, type_tree, type_node_tree};
@@ -17,6 +17,7 @@ use std::alloc::Global;
 #[derive(PartialEq, Eq, Hash, Drop)]
 enum TypeKey {
     Var(u64),
+    Param(u64),
     Con(u32, Vec<usize>),
     Arrow(usize, usize),
 }
@@ -68,6 +69,13 @@ impl Types {
         ensures tree { IfOk result (λ id. (id.0 < length self.new.bank.types) × (type_tree self.new.bank id.0 ≡ var number)) }
     {
         self.put(TypeKey::Var(number), TypeNode::Var(number))
+    }
+
+    pub(crate) fn param(&mut self, number: u64) -> Result<TypeId, Memory>
+        ensures kept { Extends self.old.bank self.new.bank }
+        ensures tree { IfOk result (λ id. (id.0 < length self.new.bank.types) × (type_tree self.new.bank id.0 ≡ param number)) }
+    {
+        self.put(TypeKey::Param(number), TypeNode::Param(number))
     }
 
     // The type in the bank, of which a number past so many stands for the variable of number 0.
