@@ -85,3 +85,4 @@ pub mod ToldBodies
 pub mod ToldSignatures
 pub mod Giving
 pub mod Inside
+pub mod Tasks

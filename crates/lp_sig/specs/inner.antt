@@ -4,3 +4,4 @@ pub mod Taking
 pub mod Noting
 pub mod Telling
 pub mod Inside
+pub mod Tasks

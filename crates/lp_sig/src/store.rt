@@ -1,6 +1,6 @@
 // Types of which each stands once in a bank, so that equal types have equal numbers.
 
-ghost use Rattle.std.specs.Prelude.{◌≡◌, ◌≢◌, ◌<◌, length, map, true, false, All, AllPairs, IfOk};
+ghost use Rattle.std.specs.Prelude.{◌≡◌, ◌≢◌, ◌<◌, length, map, true, false, AllPairs, IfOk};
 ghost use Rattle.lp_calculus.specs.Types.{var, param, con, arrow, tys};
 ghost use Rattle.lp_term.specs.Node.{TypeBelow};
 ghost use Rattle.lp_term.specs.Shapes.{type_shape};

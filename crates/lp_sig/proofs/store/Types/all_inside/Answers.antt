@@ -1,4 +1,3 @@
-use Rattle.std.proofs.Common.{sym, ◌∙◌}
 use Rattle.lp_term.proofs.Within.{kept_then}
 use Rattle.lp_term.proofs.Trees.{extends_same}
 use Rattle.lp_sig.proofs.Inside.{same_none, same_more}

@@ -1,6 +1,5 @@
-use Rattle.std.proofs.Common.{◌∙◌, ap, sym, arith}
+use Rattle.std.proofs.Common.{◌∙◌, arith}
 use Rattle.std.proofs.lemmas.Result.{IfOk-weaker}
-use Rattle.lp_calculus.specs.Types.{arrow}
 use Rattle.lp_term.specs.Nodes.{type_tree}
 use Rattle.lp_term.proofs.Within.{kept_then}
 use Rattle.lp_term.proofs.Trees.{extends_same}

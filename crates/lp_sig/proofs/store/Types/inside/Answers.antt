@@ -1,4 +1,4 @@
-use Rattle.std.proofs.Common.{◌∙◌, sym, arith}
+use Rattle.std.proofs.Common.{arith}
 use Rattle.std.proofs.lemmas.Result.{IfOk-weaker}
 use Rattle.lp_sig.proofs.Inside.{here_inside, here_past}
 use Rattle.lp_sig.proofs.store.Types.inside.Goals as goal
