@@ -11,10 +11,10 @@ use Rattle.std.proofs.lemmas.List.Folds.{list_any_at}
 use Rattle.std.proofs.lemmas.List.Quantifiers.{position-Some}
 use Rattle.std.proofs.lemmas.Slice.Eq.{bytes_eq-Decides}
 use Rattle.indexmap.specs.IndexSet.{insert_key}
-use Rattle.lp_term.specs.Node.{TypeShape, var_node, con_node, arrow_node}
+use Rattle.lp_term.specs.Node.{TypeShape, var_node, param_node, con_node, arrow_node}
 use Rattle.lp_term.specs.declared.node.TypeId.{TypeId}
 use Rattle.lp_sig.specs.declared.store.TypeKey.{TypeKey}
-use Rattle.lp_sig.specs.declared.store.TypeKey.TheVariants.{Var, Con, Arrow}
+use Rattle.lp_sig.specs.declared.store.TypeKey.TheVariants.{Var, Param, Con, Arrow}
 use Rattle.lp_sig.specs.contracts.store.TypeKeyPartialEq.TheImpl as compared
 use Rattle.lp_sig.specs.Keys.{key_shape}
 
@@ -31,14 +31,21 @@ two_sides a b c d e f = cc
 -- it tells whether the nodes are the same
 one_node : (x y : TypeKey) → Decides (same_key x y) (key_shape x ≡ key_shape y)
 one_node (Var m) (Var n) = let d = Decides-eqb m n in (λ e. ap var_node (d.0 e), λ e. d.1 (cc))
+one_node (Var m) (Param n) = (λ e. absurd (cc), λ e. absurd (cc))
 one_node (Var m) (Con d js) = (λ e. absurd (cc), λ e. absurd (cc))
 one_node (Var m) (Arrow c d) = (λ e. absurd (cc), λ e. absurd (cc))
+one_node (Param m) (Var n) = (λ e. absurd (cc), λ e. absurd (cc))
+one_node (Param m) (Param n) = let d = Decides-eqb m n in (λ e. ap param_node (d.0 e), λ e. d.1 (cc))
+one_node (Param m) (Con d js) = (λ e. absurd (cc), λ e. absurd (cc))
+one_node (Param m) (Arrow c d) = (λ e. absurd (cc), λ e. absurd (cc))
 one_node (Con c is) (Var n) = (λ e. absurd (cc), λ e. absurd (cc))
+one_node (Con c is) (Param n) = (λ e. absurd (cc), λ e. absurd (cc))
 one_node (Con c is) (Con d js) =
     let both = Decides-and (nat_eq c d) (bytes_eq is.items js.items) (Decides-eqb c d) (bytes_eq-Decides is.items js.items) in
     (λ e. let h = both.0 e in two_parts c d is.items js.items h.0 h.1, λ e. both.1 (cc, cc))
 one_node (Con c is) (Arrow x y) = (λ e. absurd (cc), λ e. absurd (cc))
 one_node (Arrow a b) (Var n) = (λ e. absurd (cc), λ e. absurd (cc))
+one_node (Arrow a b) (Param n) = (λ e. absurd (cc), λ e. absurd (cc))
 one_node (Arrow a b) (Con d js) = (λ e. absurd (cc), λ e. absurd (cc))
 one_node (Arrow a b) (Arrow c d) =
     let both = Decides-and (nat_eq a c) (nat_eq b d) (Decides-eqb a c) (Decides-eqb b d) in

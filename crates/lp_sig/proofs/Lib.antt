@@ -84,3 +84,5 @@ pub mod ToldConstants
 pub mod ToldBodies
 pub mod ToldSignatures
 pub mod Giving
+pub mod Inside
+pub mod Tasks

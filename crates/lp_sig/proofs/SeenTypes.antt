@@ -1,8 +1,8 @@
 -- Types of a signature that is seen, by their nodes.
-use Rattle.std.proofs.Common.{◌≡◌, ℕ, ◌<◌, List, length, map, Option, Some, ap, ◌∙◌, inl, inr}
+use Rattle.std.proofs.Common.{◌≡◌, ℕ, ◌<◌, List, length, map, Option, Some, sym, ap, ◌∙◌, inl, inr}
 use Rattle.std.specs.Prelude.{◌⊎◌, slice_get}
-use Rattle.lp_calculus.specs.Types.{var, con, arrow, tys}
-use Rattle.lp_term.specs.Node.{TypeShape, var_node, con_node, arrow_node}
+use Rattle.lp_calculus.specs.Types.{var, param, con, arrow, tys}
+use Rattle.lp_term.specs.Node.{TypeShape, var_node, param_node, con_node, arrow_node}
 use Rattle.lp_term.specs.Nodes.{Nodes, type_tree, type_node_tree}
 use Rattle.lp_term.specs.declared.node.TypeId.{TypeId}
 use Rattle.lp_sig.specs.Named.{named, kind_name}
@@ -22,6 +22,11 @@ module _ (there old new : Nodes) (kinds : ℕ → Option ℕ) (made : List TypeI
       AreNamed kinds names here → AreSeenTypes there old names here made →
       (t.0 < length new.types) × (named (kind_name here) (type_tree new t.0) ≡ named (kind_name names) (type_tree there id))
   var_type n is t h names here all seen = (h.0, ap (named (kind_name here)) h.1 ∙ var_seen there old names here made seen id shape tree n is)
+
+  pub param_type : (n : ℕ) → shape ≡ param_node n → (t : TypeId) → (t.0 < length new.types) × (type_tree new t.0 ≡ param n) → (names here : List (List ℕ)) →
+      AreNamed kinds names here → AreSeenTypes there old names here made →
+      (t.0 < length new.types) × (named (kind_name here) (type_tree new t.0) ≡ named (kind_name names) (type_tree there id))
+  param_type n is t h names here all seen = (h.0, ap (named (kind_name here)) h.1 ∙ ap (λ s. named (kind_name names) (type_node_tree there s)) (sym is) ∙ ap (named (kind_name names)) tree)
 
   pub con_type : (k n : ℕ) (ids parts : List TypeId) → shape ≡ con_node k (map (λ t. t.0) ids) → map (λ t. slice_get made t.0) ids ≡ map (λ t. Some t)
       parts → ((k < 8) × (n ≡ k)) ⊎ (kinds k ≡ Some n) → (t : TypeId) →

@@ -5,7 +5,7 @@ use Rattle.std.proofs.lemmas.Bool.{ltb-true}
 use Rattle.std.proofs.lemmas.List.Elements.{All-head, All-tail}
 use Rattle.std.proofs.lemmas.Option.{same_Some}
 use Rattle.lp_calculus.specs.Types.{Ty, Tys, var, param, con, arrow, no_types, types, tys}
-use Rattle.lp_term.specs.Node.{TypeShape, var_node, con_node, arrow_node}
+use Rattle.lp_term.specs.Node.{TypeShape, var_node, param_node, con_node, arrow_node}
 use Rattle.lp_term.specs.Nodes.{Nodes, Extends, type_tree, type_node_tree}
 use Rattle.lp_term.specs.declared.node.TypeId.{TypeId}
 use Rattle.lp_sig.specs.Rows.{Row}
@@ -111,6 +111,10 @@ module _ (there here : Nodes) (names : List (List ℕ)) (said : List (Row Said))
     pub var_here : (n : ℕ) → shape ≡ var_node n → (t.0 < length new.types) × (type_tree new t.0 ≡ var n) → (t.0 < length new.types) ×
         (IsWhole (named (kind_name names) (type_tree there id)) → IsTypeHere said (type_tree new t.0) (named (kind_name names) (type_tree there id)))
     var_here n is h = subst result (sym (ap (type_node_tree there) is) ∙ tree) (h.0, λ whole. record { tree = h.1; known = tt })
+
+    pub param_here : (n : ℕ) → shape ≡ param_node n → (t.0 < length new.types) × (type_tree new t.0 ≡ param n) → (t.0 < length new.types) ×
+        (IsWhole (named (kind_name names) (type_tree there id)) → IsTypeHere said (type_tree new t.0) (named (kind_name names) (type_tree there id)))
+    param_here n is h = subst result (sym (ap (type_node_tree there) is) ∙ tree) (h.0, λ whole. record { tree = h.1; known = tt })
 
     pub arrow_here : (f g l r : TypeId) → shape ≡ arrow_node f.0 g.0 → slice_get made f.0 ≡ Some l → slice_get made g.0 ≡ Some r → (t.0 < length new.types) × (type_tree new t.0 ≡ arrow (type_tree here l.0) (type_tree here r.0)) →
         (t.0 < length new.types) × (IsWhole (named (kind_name names) (type_tree there id)) → IsTypeHere said (type_tree new t.0) (named (kind_name names) (type_tree there id)))

@@ -1,15 +1,16 @@
 // Copies of types, and their variables.
 
-ghost use Rattle.std.specs.Prelude.{◌≡◌, ◌<◌, ◌+◌, ◌*◌, List, ◌++◌, [], ◌∷◌, length, map, reverse, true, All, OnOk, IfOk, IfSome, Some, nat_eq, ℕ, if◌then◌else◌};
+ghost use Rattle.std.specs.Prelude.{◌≡◌, ◌⊎◌, ◌<◌, ◌+◌, ◌*◌, List, ◌++◌, [], ◌∷◌, length, map, reverse, true, All, OnOk, IfOk, IfSome, Some, nat_eq, ℕ, if◌then◌else◌};
 ghost use Rattle.lp_calculus.specs.Types.{instance};
-ghost use Rattle.lp_term.specs.Nodes.{Nodes, Extends, type_tree};
+ghost use Rattle.lp_term.specs.Nodes.{Nodes, Extends, type_tree, type_at};
 ghost use Rattle.lp_term.specs.declared.node.TypeId.{TypeId};
 ghost use Rattle.lp_sig.specs.Copying.{type_size, total, left, cost, InRange, AreInRange, picked, filled, AreCopies};
 ghost use Rattle.lp_sig.specs.Schemes.{first_variables, IsOnWay, IsOpened};
 ghost use Rattle.indexmap.specs.IndexMap.{get};
-ghost use Rattle.lp_sig.specs.declared.interned.Task.TheVariants.{Visit};
+ghost use Rattle.lp_sig.specs.declared.interned.Task.TheVariants.{Visit, Build};
+ghost use Rattle.lp_sig.specs.inner.Tasks.{HasCopy, AreParts, AllGo};
 
-use crate::store::{Types, are_known};
+use crate::store::Types;
 use indexmap::{IndexMap, IndexSet};
 use lp_base::Memory;
 use lp_term::{TypeId, TypeNode};
@@ -40,16 +41,26 @@ impl Types {
         ensures kept { Extends self.old.bank self.new.bank }
         ensures tree { IfOk result (λ id. (id.0 < length self.new.bank.types) × (type_tree self.new.bank id.0 ≡ instance (filled self.old.bank args.now) (type_tree self.old.bank body.0))) }
     {
-        if body.0 >= self.bank.type_count() || !are_known(&self.bank, args) {
-            return Err(Memory);
-        }
+        let count = self.bank.type_count();
+        let root = self.inside(body, count)?;
+        let given = self.all_inside(args, count)?;
+        self.copied(root, given.as_slice())
+    }
+
+    // The same, of types that stand in the bank.
+    fn copied(&mut self, body: TypeId, args: &[TypeId]) -> Result<TypeId, Memory>
+        requires body { body.0 < length self.old.bank.types }
+        requires args { All (λ i. i < length self.old.bank.types) (map (λ t. t.0) args.now) }
+        ensures kept { Extends self.old.bank self.new.bank }
+        ensures tree { IfOk result (λ id. (id.0 < length self.new.bank.types) × (type_tree self.new.bank id.0 ≡ instance (filled self.old.bank args.now) (type_tree self.old.bank body.0))) }
+    {
         let mut made = IndexMap::new(self.alloc);
         let mut work = Vec::new(self.alloc);
         work.push(Task::Visit(body))?;
         'tasks: while let Some(task) = work.pop() {
             self.take(task, args, &mut made, &mut work)?;
         }
-        copy_of(&made, body)
+        Ok(copy_of(&made, body))
     }
 
     // Takes what is next.
@@ -60,6 +71,8 @@ impl Types {
         made: &mut IndexMap<usize, usize>,
         work: &mut Vec<Task>,
     ) -> Result<(), Memory>
+        requires { (id : TypeId) → task ≡ Build id → AreParts (HasCopy made.old) (type_at self.old.bank id.0) }
+        ensures goes { OnOk result ((b : Nodes) (root : ℕ) → Extends b self.old.bank → InRange b task → AllGo b root (HasCopy made.old) (task ∷ reverse work.old.items) → AllGo b root (HasCopy made.new) (reverse work.new.items)) }
         ensures kept { Extends self.old.bank self.new.bank }
         ensures falls { OnOk result ((b : Nodes) → Extends b self.old.bank → InRange b task → AreInRange b work.old.items → AreInRange b work.new.items × (left b work.new.items < left b work.old.items + cost b task)) }
         ensures copies { OnOk result ((b : Nodes) → Extends b self.old.bank → InRange b task → All (λ i. i < length b.types) (map (λ t. t.0) args.now) → AreCopies b args.now self.old.bank made.old → AreCopies b args.now self.new.bank made.new) }
@@ -78,6 +91,7 @@ impl Types {
         made: &mut IndexMap<usize, usize>,
         work: &mut Vec<Task>,
     ) -> Result<(), Memory>
+        ensures goes { OnOk result ((b : Nodes) (root : ℕ) → Extends b self.now.bank → id.0 < length b.types → AllGo b root (HasCopy made.old) (Visit id ∷ reverse work.old.items) → AllGo b root (HasCopy made.new) (reverse work.new.items)) }
         ensures copies { OnOk result ((b : Nodes) → Extends b self.now.bank → id.0 < length b.types → All (λ i. i < length b.types) (map (λ t. t.0) args.now) → AreCopies b args.now self.now.bank made.old → AreCopies b args.now self.now.bank made.new) }
         ensures falls { OnOk result ((b : Nodes) → Extends b self.now.bank → id.0 < length b.types → AreInRange b work.old.items → AreInRange b work.new.items × (left b work.new.items < left b work.old.items + 2 * type_size (type_tree b id.0))) }
     {
@@ -102,6 +116,8 @@ impl Types {
 
     // Copies a node whose parts have copies.
     fn build(&mut self, id: TypeId, made: &mut IndexMap<usize, usize>) -> Result<(), Memory>
+        requires { AreParts (HasCopy made.old) (type_at self.old.bank id.0) }
+        ensures goes { OnOk result ((i : ℕ) → HasCopy made.old i ⊎ (i ≡ id.0) → HasCopy made.new i) }
         ensures kept { Extends self.old.bank self.new.bank }
         ensures copies { OnOk result ((b : Nodes) (args : List TypeId) → Extends b self.old.bank → id.0 < length b.types → AreCopies b args self.old.bank made.old → AreCopies b args self.new.bank made.new) }
     {
@@ -114,8 +130,8 @@ impl Types {
                 keep(made, id, copy)
             }
             TypeNode::Arrow(from, to) => {
-                let left = copy_of(made, from)?;
-                let right = copy_of(made, to)?;
+                let left = copy_of(made, from);
+                let right = copy_of(made, to);
                 let copy = self.arrow(left, right)?;
                 keep(made, id, copy)
             }
@@ -207,13 +223,14 @@ fn keep(made: &mut IndexMap<usize, usize>, id: TypeId, copy: TypeId) -> Result<(
 }
 
 // The copy of a node, which was made before it.
-fn copy_of(made: &IndexMap<usize, usize>, id: TypeId) -> Result<TypeId, Memory>
-    ensures { IfOk result (λ copy. get nat_eq made.now id.0 ≡ Some copy.0) }
+fn copy_of(made: &IndexMap<usize, usize>, id: TypeId) -> TypeId
+    requires { HasCopy made.now id.0 }
+    ensures { get nat_eq made.now id.0 ≡ Some result.0 }
 {
-    match made.get(&id.0) {
-        Some(copy) => Ok(TypeId(*copy)),
-        None => Err(Memory),
-    }
+    let Some(copy) = made.get(&id.0) else {
+        unreachable!()
+    };
+    TypeId(*copy)
 }
 
 fn copies_of(
@@ -221,11 +238,12 @@ fn copies_of(
     made: &IndexMap<usize, usize>,
     ids: &[TypeId],
 ) -> Result<Vec<TypeId>, Memory>
+    requires { All (HasCopy made.now) (map (λ t. t.0) ids.now) }
     ensures { IfOk result (λ copies. map (λ t. get nat_eq made.now t.0) ids.now ≡ map (λ c. Some c.0) copies.items) }
 {
     let mut copies = Vec::new(alloc);
-    for id in ids.iter().copied() {
-        copies.push(copy_of(made, id)?)?;
+    for at in 0..ids.len() {
+        copies.push(copy_of(made, ids[at]))?;
     }
     Ok(copies)
 }

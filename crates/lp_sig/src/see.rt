@@ -184,7 +184,7 @@ impl Types {
     {
         match bank.type_node(id) {
             TypeNode::Var(number) => self.var(number),
-            TypeNode::Param(_) => Err(Memory),
+            TypeNode::Param(number) => self.param(number),
             TypeNode::Con(kind, ids) => {
                 let number = kind_here(kinds, kind)?;
                 let parts = types_here(self.alloc, made, ids)?;

@@ -1,11 +1,12 @@
 // Types of which each stands once in a bank, so that equal types have equal numbers.
 
-ghost use Rattle.std.specs.Prelude.{◌≡◌, ◌≢◌, ◌<◌, length, map, true, false, All, AllPairs, IfOk};
-ghost use Rattle.lp_calculus.specs.Types.{var, con, arrow, tys};
+ghost use Rattle.std.specs.Prelude.{◌≡◌, ◌≢◌, ◌<◌, length, map, true, false, AllPairs, IfOk};
+ghost use Rattle.lp_calculus.specs.Types.{var, param, con, arrow, tys};
 ghost use Rattle.lp_term.specs.Node.{TypeBelow};
 ghost use Rattle.lp_term.specs.Shapes.{type_shape};
-ghost use Rattle.lp_term.specs.Nodes.{Extends, type_tree, type_node_tree};
+ghost use Rattle.lp_term.specs.Nodes.{Nodes, Extends, type_tree, type_node_tree};
 ghost use Rattle.lp_sig.specs.Keys.{key_shape};
+ghost use Rattle.lp_sig.specs.inner.Inside.{AreSame};
 
 use indexmap::IndexSet;
 use lp_base::Memory;
@@ -16,20 +17,9 @@ use std::alloc::Global;
 #[derive(PartialEq, Eq, Hash, Drop)]
 enum TypeKey {
     Var(u64),
+    Param(u64),
     Con(u32, Vec<usize>),
     Arrow(usize, usize),
-}
-
-// Whether all types are in the bank.
-pub(crate) fn are_known(bank: &Bank, ids: &[TypeId]) -> bool
-    ensures { result ≡ true → All (λ i. i < length bank.now.types) (map (λ t. t.0) ids.now) }
-{
-    for id in ids.iter().copied() {
-        if id.0 >= bank.type_count() {
-            return false;
-        }
-    }
-    true
 }
 
 #[derive(Drop)]
@@ -81,25 +71,58 @@ impl Types {
         self.put(TypeKey::Var(number), TypeNode::Var(number))
     }
 
+    pub(crate) fn param(&mut self, number: u64) -> Result<TypeId, Memory>
+        ensures kept { Extends self.old.bank self.new.bank }
+        ensures tree { IfOk result (λ id. (id.0 < length self.new.bank.types) × (type_tree self.new.bank id.0 ≡ param number)) }
+    {
+        self.put(TypeKey::Param(number), TypeNode::Param(number))
+    }
+
+    // The type in the bank, of which a number past so many stands for the variable of number 0.
+    pub(crate) fn inside(&mut self, id: TypeId, count: usize) -> Result<TypeId, Memory>
+        ensures kept { Extends self.old.bank self.new.bank }
+        ensures tree { IfOk result (λ here. (b : Nodes) → Extends b self.old.bank → count ≡ length b.types → (here.0 < length self.new.bank.types) × (type_tree self.new.bank here.0 ≡ type_tree b id.0)) }
+    {
+        if id.0 < count {
+            return Ok(id);
+        }
+        self.var(0)
+    }
+
+    pub(crate) fn all_inside(&mut self, ids: &[TypeId], count: usize) -> Result<Vec<TypeId>, Memory>
+        ensures kept { Extends self.old.bank self.new.bank }
+        ensures trees { IfOk result (λ here. (b : Nodes) → Extends b self.old.bank → count ≡ length b.types → AreSame b self.new.bank ids.now here.items) }
+    {
+        let mut here = Vec::new(self.alloc);
+        for id in ids.iter().copied() {
+            let one = self.inside(id, count)?;
+            here.push(one)?;
+        }
+        Ok(here)
+    }
+
     pub(crate) fn con(&mut self, kind: u32, parts: &[TypeId]) -> Result<TypeId, Memory>
         ensures kept { Extends self.old.bank self.new.bank }
         ensures tree { IfOk result (λ id. (id.0 < length self.new.bank.types) × (type_tree self.new.bank id.0 ≡ con kind (tys (map (type_tree self.old.bank) (map (λ t. t.0) parts.now))))) }
     {
-        if !are_known(&self.bank, parts) {
-            return Err(Memory);
-        }
-        let numbers = parts.iter().map(|part| part.0).collect(self.alloc)?;
-        self.put(TypeKey::Con(kind, numbers), TypeNode::Con(kind, parts))
+        let count = self.bank.type_count();
+        let inside = self.all_inside(parts, count)?;
+        let here = inside.as_slice();
+        let numbers = here.iter().map(|part| part.0).collect(self.alloc)?;
+        self.put(TypeKey::Con(kind, numbers), TypeNode::Con(kind, here))
     }
 
     pub(crate) fn arrow(&mut self, from: TypeId, to: TypeId) -> Result<TypeId, Memory>
         ensures kept { Extends self.old.bank self.new.bank }
         ensures tree { IfOk result (λ id. (id.0 < length self.new.bank.types) × (type_tree self.new.bank id.0 ≡ arrow (type_tree self.old.bank from.0) (type_tree self.old.bank to.0))) }
     {
-        if from.0 >= self.bank.type_count() || to.0 >= self.bank.type_count() {
-            return Err(Memory);
-        }
-        self.put(TypeKey::Arrow(from.0, to.0), TypeNode::Arrow(from, to))
+        let count = self.bank.type_count();
+        let left = self.inside(from, count)?;
+        let right = self.inside(to, count)?;
+        self.put(
+            TypeKey::Arrow(left.0, right.0),
+            TypeNode::Arrow(left, right),
+        )
     }
 
     // Whether two types are the same one.

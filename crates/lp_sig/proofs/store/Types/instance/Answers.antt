@@ -1,41 +1,45 @@
-use Rattle.std.proofs.Common.{◌∙◌, ◌++◌, ◌∷◌, [], refl, ap, sym, subst, arith}
+use Rattle.std.proofs.Common.{◌∙◌, ap, sym, subst, map, length, ◌<◌, arith}
+use Rattle.std.specs.Prelude.{All}
 use Rattle.std.proofs.lemmas.Result.{IfOk-weaker}
+use Rattle.lp_calculus.specs.Types.{instance}
+use Rattle.lp_term.specs.Nodes.{type_tree}
 use Rattle.lp_term.proofs.Within.{kept_then}
 use Rattle.lp_term.proofs.Trees.{extends_same}
-use Rattle.lp_sig.specs.Copying.{AreInRange}
-use Rattle.lp_sig.specs.declared.interned.Task.TheVariants.{Visit}
-use Rattle.lp_sig.proofs.Copies.{task_taken, rest_in_range}
-use Rattle.lp_sig.proofs.Instances.{nothing_copied}
+use Rattle.lp_sig.specs.Copying.{filled}
+use Rattle.lp_sig.proofs.Inside.{instance_same}
 use Rattle.lp_sig.proofs.store.Types.instance.Goals as goal
 
-pub tasks-init : goal.tasks-init
-tasks-init c = record {
-  kept = extends_same c.args.self.now.bank;
-  in_range = subst (AreInRange c.args.self.now.bank) (sym (c.in_ok-push.ensures.items ∙ ap (λ w. w ++ Visit c.args.body ∷ []) c.new-work.ensures.items)) (omega (arith, c.if-body-type_count.false, c.type_count.ensures.count), tt);
-  copies = nothing_copied c.args.self.now.bank c.args.self.now.bank c.args.args.now c.new-made.result c.new-made.ensures.empty;
-}
-
-pub tasks-preserved : goal.tasks-preserved
-tasks-preserved c =
+pub copied-requires-clause-body : goal.copied-requires-clause-body
+copied-requires-clause-body c =
     let b = c.args.self.now.bank in
-    let r = rest_in_range b c.tasks.work.items c.pop.new.self.items c.in-Some.task c.in-Some.ensures.items c.tasks.invariant.in_range in
-    record {
-      kept = kept_then b c.tasks.self.bank c.take.new.self.bank c.tasks.invariant.kept c.take.ensures.kept;
-      in_range = (c.in_ok-take.ensures.falls b c.tasks.invariant.kept r.1 r.0).0;
-      copies = c.in_ok-take.ensures.copies b c.tasks.invariant.kept r.1 (c.if-not-are_known.ensures refl) c.tasks.invariant.copies;
-    }
+    let l = (c.in_ok-root.ensures.tree b (extends_same b) c.type_count-count.ensures.count).0 in
+    let m = c.all_inside.ensures.kept.more_types in
+    omega (arith, l, m)
 
-pub tasks-smaller : goal.tasks-smaller
-tasks-smaller c =
-    let b = c.args.self.now.bank in
-    let r = rest_in_range b c.tasks.work.items c.pop.new.self.items c.in-Some.task c.in-Some.ensures.items c.tasks.invariant.in_range in
-    task_taken b c.tasks.work.items c.pop.new.self.items c.take.new.work.items c.in-Some.task c.in-Some.ensures.items (c.in_ok-take.ensures.falls b c.tasks.invariant.kept r.1 r.0).1
+pub copied-requires-clause-args : goal.copied-requires-clause-args
+copied-requires-clause-args c =
+    let mid = c.all_inside.new.self.bank in
+    subst (λ l. All (λ i. i < length mid.types) (map (λ t. t.0) l)) (sym c.as_slice.ensures.value)
+    (c.in_ok-given.ensures.trees c.args.self.now.bank c.inside.ensures.kept c.type_count-count.ensures.count).within
 
-pub returns-in_err-take-clause-kept : goal.returns-in_err-take-clause-kept
-returns-in_err-take-clause-kept c = kept_then c.args.self.now.bank c.tasks.self.bank c.take.new.self.bank c.tasks.invariant.kept c.take.ensures.kept
+pub returns-in_err-given-clause-kept : goal.returns-in_err-given-clause-kept
+returns-in_err-given-clause-kept c = kept_then c.args.self.now.bank c.inside.new.self.bank c.all_inside.new.self.bank c.inside.ensures.kept c.all_inside.ensures.kept
 
 pub returns-clause-kept : goal.returns-clause-kept
-returns-clause-kept c = c.tasks.invariant.kept
+returns-clause-kept c =
+    let b = c.args.self.now.bank in
+    let mid = c.all_inside.new.self.bank in
+    kept_then b mid c.copied.new.self.bank (kept_then b c.inside.new.self.bank mid c.inside.ensures.kept c.all_inside.ensures.kept) c.copied.ensures.kept
 
 pub returns-clause-tree : goal.returns-clause-tree
-returns-clause-tree c = IfOk-weaker c.copy_of.result _ _ (λ copy is. c.tasks.invariant.copies c.args.body.0 copy.0 is) c.copy_of.ensures
+returns-clause-tree c =
+    let b = c.args.self.now.bank in
+    let mid = c.all_inside.new.self.bank in
+    let root = c.in_ok-root.root in
+    let one = c.in_ok-root.ensures.tree b (extends_same b) c.type_count-count.ensures.count in
+    let same = c.in_ok-given.ensures.trees b c.inside.ensures.kept c.type_count-count.ensures.count in
+    IfOk-weaker c.copied.result _ _ (λ id h. (
+      h.0,
+      h.1 ∙ ap (λ l. instance (filled mid l) (type_tree mid root.0)) c.as_slice.ensures.value ∙
+          instance_same mid b c.in_ok-given.given.items c.args.args.now (type_tree mid root.0) (type_tree b c.args.body.0) same (c.all_inside.ensures.kept.same_types root.0 one.0 ∙ one.1),
+    )) c.copied.ensures.tree

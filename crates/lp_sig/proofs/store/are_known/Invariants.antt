@@ -1,6 +1,0 @@
-use Rattle.std.proofs.Common.{◌<◌, length, map}
-use Rattle.std.specs.Prelude.{All}
-use Rattle.lp_sig.proofs.store.are_known.Given as goal
-
-abbrev pub invariant-loop-id : goal.invariant-loop-id
-invariant-loop-id l = All (λ i. i < length l.bank.types) (map (λ t. t.0) l.yielded)
