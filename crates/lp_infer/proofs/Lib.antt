@@ -31,3 +31,4 @@ pub mod TypingRows
 pub mod Parts
 pub mod Turns
 pub mod Needs
+pub mod Waiting
