@@ -32,3 +32,5 @@ pub mod Parts
 pub mod Turns
 pub mod Needs
 pub mod Waiting
+pub mod Shortest
+pub mod NameTurns

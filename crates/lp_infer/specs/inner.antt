@@ -2,3 +2,4 @@
 pub mod Parts
 pub mod Turns
 pub mod Waiting
+pub mod Rooms
