@@ -1,5 +1,5 @@
 -- Each task that is done leaves fewer turns.
-use Rattle.std.proofs.Common.{◌≡◌, ℕ, zero, suc, ◌+◌, ◌-◌, ◌<◌, List, ◌∷◌, Option, sym, ap, subst, arith}
+use Rattle.std.proofs.Common.{◌≡◌, ℕ, suc, ◌+◌, ◌-◌, ◌<◌, List, ◌∷◌, Option, ap, arith}
 use Rattle.lp_base.specs.declared.place.Spot.{Spot}
 use Rattle.lp_infer.specs.inner.Turns.{turns_of}
 use Rattle.lp_infer.specs.inner.Rooms.{turns}

@@ -114,9 +114,9 @@ module _ (A : ℕ → Ty) (b : Nodes) (root : ℕ) where
       todo ≡ map task.Visit ids ++ (task.Build id top ∷ ts) → Serves A b root (WasRead r) (task.Visit id ∷ ts) → Serves A b root (WasRead r) todo
   con_serves r id top c ids ts todo same known node e s =
       parts_serve r id top ids ts todo same (All-unmapped ids known) (subst (PartsRead (Among ids (WasRead r))) node (all_among ids (WasRead r))) e s where
-    All-unmapped : (xs : List TypeId) → All (λ i. i < length b.types) (map (λ t. t.0) xs) → All (λ t. t.0 < length b.types) xs
-    All-unmapped [] h = All-nil (λ t. t.0 < length b.types)
-    All-unmapped (x ∷ xs) h = All-cons (λ t. t.0 < length b.types) x xs (All-head (λ i. i < length b.types) x.0 (map (λ t. t.0) xs) h) (All-unmapped xs (All-tail (λ i. i < length b.types) x.0 (map (λ t. t.0) xs) h))
+        All-unmapped : (xs : List TypeId) → All (λ i. i < length b.types) (map (λ t. t.0) xs) → All (λ t. t.0 < length b.types) xs
+        All-unmapped [] h = All-nil (λ t. t.0 < length b.types)
+        All-unmapped (x ∷ xs) h = All-cons (λ t. t.0 < length b.types) x xs (All-head (λ i. i < length b.types) x.0 (map (λ t. t.0) xs) h) (All-unmapped xs (All-tail (λ i. i < length b.types) x.0 (map (λ t. t.0) xs) h))
 
   pub arrow_serves : (r : Reading) (id top left right : TypeId) (ts todo : List Task) → A top.0 ≡ A id.0 → (left.0 < length b.types) × (right.0 < length b.types) → arrow_node left.0 right.0 ≡ type_at b top.0 →
       todo ≡ task.Visit left ∷ task.Visit right ∷ task.Build id top ∷ ts → Serves A b root (WasRead r) (task.Visit id ∷ ts) → Serves A b root (WasRead r) todo

@@ -1,12 +1,11 @@
 // What types are under bindings, read off into another bank with sharing; the type variables are numbered by first place.
-ghost use Rattle.std.specs.Prelude.{◌≡◌, ◌<◌, ℕ, List, [], ◌∷◌, ◌++◌, map, reverse, length, All, IfOk, OnOk, Some, nat_eq, if◌then◌else◌};
+ghost use Rattle.std.specs.Prelude.{◌≡◌, ◌<◌, ℕ, [], ◌∷◌, ◌++◌, map, reverse, length, All, IfOk, OnOk, Some, nat_eq, if◌then◌else◌};
 ghost use Rattle.indexmap.specs.IndexMap.{get};
 ghost use Rattle.indexmap.specs.IndexSet.{insert_key};
 ghost use Rattle.lp_calculus.specs.Types.{Ty, var, param, instance};
 ghost use Rattle.lp_term.specs.Nodes.{Nodes, Extends, type_tree, type_at};
 ghost use Rattle.lp_term.specs.Within.{AreTypesOf};
 ghost use Rattle.lp_type_unify.specs.Reading.{AreKept};
-ghost use Rattle.lp_type_unify.specs.Looking.{IsUnbound};
 ghost use Rattle.lp_infer.specs.Meeting.{place};
 ghost use Rattle.lp_infer.specs.ReadingOff.{bound_type, cost, IsReadAs, IsReadMemo, AreRead, IsTaken, ReadsOne, ReadsAll};
 ghost use Rattle.lp_infer.specs.inner.Waiting.{WasRead, PartsRead, IsPut, IsRead, Serves};
@@ -185,13 +184,7 @@ impl Reading {
         }
     }
 
-    fn build(
-        &mut self,
-        from: &Bank,
-        id: TypeId,
-        top: TypeId,
-        to: &mut Bank,
-    ) -> Result<(), Memory>
+    fn build(&mut self, from: &Bank, id: TypeId, top: TypeId, to: &mut Bank) -> Result<(), Memory>
         requires { PartsRead (WasRead self.old) (type_at from.now top.0) }
         ensures kept { Extends to.old to.new }
         ensures numbers { self.new.numbers ≡ self.old.numbers }

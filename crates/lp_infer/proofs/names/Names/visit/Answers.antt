@@ -1,7 +1,7 @@
 use Rattle.std.proofs.Common.{◌≡◌, ◌-◌, ◌∷◌, ◌<◌, ◌≤◌, ◌∙◌, sym, ap, subst, refl, length, get_or, reverse, Some, None}
 use Rattle.std.proofs.lemmas.Option.{slice_get_read, slice_get_past}
 use Rattle.lp_infer.specs.Scanning.{Scanned}
-use Rattle.lp_infer.specs.inner.Rooms.{Within, turns}
+use Rattle.lp_infer.specs.inner.Rooms.{Within}
 use Rattle.lp_infer.specs.declared.names.Task.TheVariants.{Visit, Leave}
 use Rattle.lp_infer.proofs.Scanning.{no_names, past_empty, past_name, past_application, past_abstraction, past_nothing, reverse_two}
 use Rattle.lp_infer.proofs.NameTurns.{room_left, leaf_left, application_left, abstraction_left}

@@ -1,4 +1,4 @@
-use Rattle.std.proofs.Common.{◌∙◌, ◌<◌, ℕ, sym, ap, subst, ◌∷◌, reverse}
+use Rattle.std.proofs.Common.{◌<◌, ℕ, sym, subst, ◌∷◌, reverse}
 use Rattle.std.specs.Prelude.{OnOk}
 use Rattle.std.proofs.lemmas.Result.{on_ok_weaker}
 use Rattle.lp_infer.specs.ReadingOff.{bound_type, cost, IsTaken}
