@@ -31,3 +31,6 @@ pub mod TypingRows
 pub mod Parts
 pub mod Turns
 pub mod Needs
+pub mod Waiting
+pub mod Shortest
+pub mod NameTurns

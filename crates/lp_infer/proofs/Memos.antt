@@ -1,9 +1,8 @@
 -- Types that are read off with their type variables numbered: what was made stays right while more is met.
-use Rattle.std.proofs.Common.{◌≡◌, ℕ, suc, ◌+◌, ◌<◌, List, [], ◌∷◌, ◌++◌, map, reverse, length, refl, sym, ap, subst, ◌∙◌, Option, Some, None, Bool, true, false, arith, take, get_or}
-use Rattle.std.specs.Prelude.{nat_eq, if◌then◌else◌}
+use Rattle.std.proofs.Common.{◌≡◌, ℕ, suc, ◌+◌, ◌<◌, List, [], ◌∷◌, ◌++◌, map, reverse, length, refl, sym, ap, subst, ◌∙◌, Option, Some, None, Bool, true, false, arith, take, get_or, inl, inr}
+use Rattle.std.specs.Prelude.{◌⊎◌, nat_eq, if◌then◌else◌}
 use Rattle.std.specs.List.{list_any, position_or_len}
 use Rattle.std.specs.Map.{lookup}
-use Rattle.std.proofs.lemmas.Bool.{eqb-true}
 use Rattle.std.proofs.lemmas.List.{append-nil, append_assoc, map-append, reverse-append, reverse-reverse, map_more}
 use Rattle.std.proofs.lemmas.List.Elements.{All-append, All-cons, All-nil}
 use Rattle.indexmap.specs.IndexMap.{IndexMap, get}
@@ -16,10 +15,13 @@ use Rattle.lp_infer.specs.Numbering.{type_variables, types_variables, all_variab
 use Rattle.lp_infer.specs.Meeting.{place, met, AllMet, renaming}
 use Rattle.lp_term.specs.Within.{IsTypeOf, AreTypesOf}
 use Rattle.lp_infer.specs.Copies.{trees_of, IsType}
+use Rattle.lp_infer.specs.inner.Waiting.{IsPut}
+use Rattle.lp_infer.proofs.Waiting.{put_since}
 use Rattle.lp_infer.specs.ReadingOff.{bound_type, IsReadAs, IsReadMemo, AreRead, pending, ReadsOne, ReadsAll, IsTaken}
 use Rattle.lp_infer.specs.declared.reading.Reading.{Reading}
 use Rattle.lp_infer.specs.declared.reading.Task.{Task}
 use Rattle.lp_infer.specs.declared.reading.Task.TheVariants as task
+use Rattle.lp_term.proofs.Trees.{extends_same}
 use Rattle.lp_term.proofs.Within.{type_trees_later, types_later}
 use Rattle.lp_infer.proofs.Copying.{tys_instance}
 use Rattle.lp_infer.proofs.Acting.{trees_append}
@@ -64,15 +66,18 @@ module _ (A : ℕ → Ty) where
   pub memo_stays : (b c : Nodes) (old new : Reading) (more : List ℕ) → Extends b c → new.made ≡ old.made → new.numbers.keys ≡ old.numbers.keys ++ more → IsReadMemo A b old → IsReadMemo A c new
   memo_stays b c old new more E made keys M = λ i j e. read_stays b c old.numbers.keys new.numbers.keys more (A i) j E keys (M i j (ap (λ m. get nat_eq m i) (sym made) ∙ e))
 
-  pub memo_more : (b c : Nodes) (old new : Reading) (more : List ℕ) (top j : ℕ) → Extends b c → new.numbers.keys ≡ old.numbers.keys ++ more → ((i : ℕ) → get nat_eq new.made i ≡ (if nat_eq top i then Some j else get nat_eq old.made i)) →
+  pub memo_more : (b c : Nodes) (old new : Reading) (more : List ℕ) (id top j : ℕ) → Extends b c → new.numbers.keys ≡ old.numbers.keys ++ more → IsPut id top j old new → A id ≡ A top →
       IsReadAs c new.numbers.keys (A top) j → IsReadMemo A b old → IsReadMemo A c new
-  memo_more b c old new more top j E keys put R M = λ i k e. go i k (nat_eq top i) refl (sym (put i) ∙ e) where
-    go : (i k : ℕ) (t : Bool) → nat_eq top i ≡ t → (if nat_eq top i then Some j else get nat_eq old.made i) ≡ Some k → IsReadAs c new.numbers.keys (A i) k
-    go i k true f e =
-        let g : top ≡ i = eqb-true top i f in
-        let d : j ≡ k = same_Some j k (sym (ap (λ t. if t then Some j else get nat_eq old.made i) f) ∙ e) in
-        subst (λ n. IsReadAs c new.numbers.keys (A i) n) d (subst (λ n. IsReadAs c new.numbers.keys (A n) j) g R)
-    go i k false f e = read_stays b c old.numbers.keys new.numbers.keys more (A i) k E keys (M i k (sym (ap (λ t. if t then Some j else get nat_eq old.made i) f) ∙ e))
+  memo_more b c old new more id top j E keys put same R M = λ i k e. go i k e (put.each i) where
+    of_top : (i : ℕ) → (i ≡ id) ⊎ (i ≡ top) → A top ≡ A i
+    of_top i (inl e) = sym (ap A e ∙ same)
+    of_top i (inr e) = sym (ap A e)
+
+    go : (i k : ℕ) → get nat_eq new.made i ≡ Some k → (get nat_eq new.made i ≡ get nat_eq old.made i) ⊎ (((i ≡ id) ⊎ (i ≡ top)) × (get nat_eq new.made i ≡ Some j)) → IsReadAs c new.numbers.keys (A i) k
+    go i k e (inl f) = read_stays b c old.numbers.keys new.numbers.keys more (A i) k E keys (M i k (sym f ∙ e))
+    go i k e (inr f) =
+        let d : j ≡ k = same_Some j k (sym f.1 ∙ e) in
+        subst (λ n. IsReadAs c new.numbers.keys (A i) n) d (subst (λ T. IsReadAs c new.numbers.keys T j) (of_top i f.0) R)
 
 pub variable_read : (b : Nodes) (N : List ℕ) (A : Ty) (v j : ℕ) → A ≡ var v → (j < length b.types) × (type_tree b j ≡ var (place N v)) → list_any (nat_eq v) N ≡ true → IsReadAs b N A j
 variable_read b N A v j e h m = record { known = h.0; is = h.1 ∙ ap (instance (renaming N)) (sym e); all = subst (λ T. AllMet N (type_variables T)) (sym e) (m, tt) }
@@ -89,23 +94,23 @@ unbound_reads b made top v K U e = ap (instance (reads b made)) (sym e) ∙ slot
 
 module _ (A : ℕ → Ty) where
   -- a type variable that was given a number, put, and kept
-  pub variable_kept : (b c : Nodes) (old now new : Reading) (v top j number : ℕ) → Extends b c → now.made ≡ old.made → now.numbers.keys ≡ insert_key nat_eq old.numbers.keys v → number ≡ place now.numbers.keys v → new.numbers ≡ now.numbers →
-      ((i : ℕ) → get nat_eq new.made i ≡ (if nat_eq top i then Some j else get nat_eq now.made i)) → (j < length c.types) × (type_tree c j ≡ var number) → A top ≡ var v → IsReadMemo A b old → IsReadMemo A c new
-  variable_kept b c old now new v top j number E made keys number_is kept put h is M =
+  pub variable_kept : (b c : Nodes) (old now new : Reading) (v id top j number : ℕ) → Extends b c → now.made ≡ old.made → now.numbers.keys ≡ insert_key nat_eq old.numbers.keys v → number ≡ place now.numbers.keys v → new.numbers ≡ now.numbers →
+      IsPut id top j now new → (j < length c.types) × (type_tree c j ≡ var number) → A id ≡ A top → A top ≡ var v → IsReadMemo A b old → IsReadMemo A c new
+  variable_kept b c old now new v id top j number E made keys number_is kept put h same is M =
       let more = keeps old.numbers.keys v in
       let all : new.numbers.keys ≡ insert_key nat_eq old.numbers.keys v = ap (λ n. n.keys) kept ∙ keys in
-      memo_more A b c old new more.0 top j E (all ∙ more.1) (λ i. put i ∙ ap (λ m. if nat_eq top i then Some j else get nat_eq m i) made)
+      memo_more A b c old new more.0 id top j E (all ∙ more.1) (put_since id top j old now new made put) same
       (variable_read c new.numbers.keys (A top) v j is (h.0, h.1 ∙ ap var (number_is ∙ ap (λ l. place l v) (sym (ap (λ n. n.keys) kept)))) (subst (λ l. list_any (nat_eq v) l ≡ true) (sym all) (inserted old.numbers.keys v))) M
 
-  pub parameter_kept : (b c : Nodes) (old new : Reading) (k top j : ℕ) → Extends b c → new.numbers ≡ old.numbers →
-      ((i : ℕ) → get nat_eq new.made i ≡ (if nat_eq top i then Some j else get nat_eq old.made i)) → (j < length c.types) × (type_tree c j ≡ param k) → A top ≡ param k → IsReadMemo A b old → IsReadMemo A c new
-  parameter_kept b c old new k top j E kept put h is M =
-      memo_more A b c old new [] top j E (ap (λ n. n.keys) kept ∙ sym (append-nil old.numbers.keys)) put (parameter_read c new.numbers.keys (A top) k j is h) M
+  pub parameter_kept : (b c : Nodes) (old new : Reading) (k id top j : ℕ) → Extends b c → new.numbers ≡ old.numbers →
+      IsPut id top j old new → (j < length c.types) × (type_tree c j ≡ param k) → A id ≡ A top → A top ≡ param k → IsReadMemo A b old → IsReadMemo A c new
+  parameter_kept b c old new k id top j E kept put h same is M =
+      memo_more A b c old new [] id top j E (ap (λ n. n.keys) kept ∙ sym (append-nil old.numbers.keys)) put same (parameter_read c new.numbers.keys (A top) k j is h) M
 
-  pub made_kept : (b c : Nodes) (old new : Reading) (top j : ℕ) → Extends b c → new.numbers ≡ old.numbers →
-      ((i : ℕ) → get nat_eq new.made i ≡ (if nat_eq top i then Some j else get nat_eq old.made i)) → IsReadAs c old.numbers.keys (A top) j → IsReadMemo A b old → IsReadMemo A c new
-  made_kept b c old new top j E kept put h M =
-      memo_more A b c old new [] top j E (ap (λ n. n.keys) kept ∙ sym (append-nil old.numbers.keys)) put (subst (λ l. IsReadAs c l (A top) j) (sym (ap (λ n. n.keys) kept)) h) M
+  pub made_kept : (b c : Nodes) (old new : Reading) (id top j : ℕ) → Extends b c → new.numbers ≡ old.numbers →
+      IsPut id top j old new → A id ≡ A top → IsReadAs c old.numbers.keys (A top) j → IsReadMemo A b old → IsReadMemo A c new
+  made_kept b c old new id top j E kept put same h M =
+      memo_more A b c old new [] id top j E (ap (λ n. n.keys) kept ∙ sym (append-nil old.numbers.keys)) put same (subst (λ l. IsReadAs c l (A top) j) (sym (ap (λ n. n.keys) kept)) h) M
 
 -- lists
 
@@ -183,12 +188,13 @@ visits_pending A (id ∷ ids) ts = ap (λ l. type_variables (A id.0) ++ l) (visi
 
 module _ (A : ℕ → Ty) where
   -- what was read before
-  pub again : (b : Nodes) (r : Reading) (id top : TypeId) (j : ℕ) (ts : List Task) → A top.0 ≡ A id.0 → get nat_eq r.made top.0 ≡ Some j → IsTaken A b b r r (task.Visit id ∷ ts) ts
-  again b r id top j ts same e = record {
-    memo = λ M. M;
+  pub again : (b : Nodes) (old new : Reading) (id top : TypeId) (j : ℕ) (ts : List Task) → A top.0 ≡ A id.0 → get nat_eq old.made top.0 ≡ Some j → new.numbers ≡ old.numbers → IsPut id.0 top.0 j old new → IsTaken A b b old new (task.Visit id ∷ ts) ts
+  again b old new id top j ts same e kept put = record {
+    memo = λ M. made_kept A b b old new id.0 top.0 j (extends_same b) kept put (sym same) (M top.0 j e) M;
     order = λ M.
         let R = M top.0 j e in
-        sym (met_append (type_variables (A id.0)) (pending A ts) r.numbers.keys ∙ ap (λ N. met N (pending A ts)) (met_again (type_variables (A id.0)) r.numbers.keys (subst (λ T. AllMet r.numbers.keys (type_variables T)) same R.all)));
+        ap (λ s. met s.keys (pending A ts)) kept ∙
+        sym (met_append (type_variables (A id.0)) (pending A ts) old.numbers.keys ∙ ap (λ N. met N (pending A ts)) (met_again (type_variables (A id.0)) old.numbers.keys (subst (λ T. AllMet old.numbers.keys (type_variables T)) same R.all)));
   }
 
   pub taken_variable : (b c : Nodes) (old new : Reading) (id top : TypeId) (v : ℕ) (ts : List Task) → A top.0 ≡ A id.0 → A top.0 ≡ var v →
@@ -205,21 +211,21 @@ module _ (A : ℕ → Ty) where
     order = λ M. ap (λ s. met s.keys (pending A ts)) keys ∙ ap (λ T. met old.numbers.keys (type_variables T ++ pending A ts)) (sym is ∙ same);
   }
 
-  pub taken_parts : (b : Nodes) (r : Reading) (id top : TypeId) (ids : List TypeId) (ts left : List Task) → A top.0 ≡ A id.0 → type_variables (A top.0) ≡ all_variables (map A (map (λ t. t.0) ids)) → left ≡ map task.Visit ids ++ (task.Build top ∷ ts) → IsTaken A b b r r (task.Visit id ∷ ts) left
+  pub taken_parts : (b : Nodes) (r : Reading) (id top : TypeId) (ids : List TypeId) (ts left : List Task) → A top.0 ≡ A id.0 → type_variables (A top.0) ≡ all_variables (map A (map (λ t. t.0) ids)) → left ≡ map task.Visit ids ++ (task.Build id top ∷ ts) → IsTaken A b b r r (task.Visit id ∷ ts) left
   taken_parts b r id top ids ts left same is e = record {
     memo = λ M. M;
-    order = λ M. ap (λ l. met r.numbers.keys (pending A l)) e ∙ ap (met r.numbers.keys) (visits_pending A ids (task.Build top ∷ ts)) ∙ ap (λ l. met r.numbers.keys (l ++ pending A ts)) (sym is ∙ ap type_variables same);
+    order = λ M. ap (λ l. met r.numbers.keys (pending A l)) e ∙ ap (met r.numbers.keys) (visits_pending A ids (task.Build id top ∷ ts)) ∙ ap (λ l. met r.numbers.keys (l ++ pending A ts)) (sym is ∙ ap type_variables same);
   }
 
-  pub taken_arrow : (b : Nodes) (r : Reading) (id top left right : TypeId) (ts todo : List Task) → A top.0 ≡ A id.0 → type_variables (A top.0) ≡ type_variables (A left.0) ++ type_variables (A right.0) → todo ≡ task.Visit left ∷ task.Visit right ∷ task.Build top ∷ ts →
+  pub taken_arrow : (b : Nodes) (r : Reading) (id top left right : TypeId) (ts todo : List Task) → A top.0 ≡ A id.0 → type_variables (A top.0) ≡ type_variables (A left.0) ++ type_variables (A right.0) → todo ≡ task.Visit left ∷ task.Visit right ∷ task.Build id top ∷ ts →
       IsTaken A b b r r (task.Visit id ∷ ts) todo
   taken_arrow b r id top left right ts todo same is e = record {
     memo = λ M. M;
     order = λ M. ap (λ l. met r.numbers.keys (pending A l)) e ∙ ap (met r.numbers.keys) (sym (append_assoc (type_variables (A left.0)) (type_variables (A right.0)) (pending A ts))) ∙ ap (λ l. met r.numbers.keys (l ++ pending A ts)) (sym is ∙ ap type_variables same);
   }
 
-  pub taken_build : (b c : Nodes) (old new : Reading) (top : TypeId) (ts : List Task) → new.numbers ≡ old.numbers → (IsReadMemo A b old → IsReadMemo A c new) → IsTaken A b c old new (task.Build top ∷ ts) ts
-  taken_build b c old new top ts keys memo = record { memo = memo; order = λ M. ap (λ s. met s.keys (pending A ts)) keys }
+  pub taken_build : (b c : Nodes) (old new : Reading) (id top : TypeId) (ts : List Task) → new.numbers ≡ old.numbers → (IsReadMemo A b old → IsReadMemo A c new) → IsTaken A b c old new (task.Build id top ∷ ts) ts
+  taken_build b c old new id top ts keys memo = record { memo = memo; order = λ M. ap (λ s. met s.keys (pending A ts)) keys }
 
   -- the last type that was read is read off
   pub reads_one : (b c : Nodes) (first last : Reading) (id : ℕ) (j : TypeId) (left : List Task) → left ≡ [] → (IsReadMemo A b first → IsReadMemo A c last) → (IsReadMemo A b first → met last.numbers.keys (pending A (reverse left)) ≡ met first.numbers.keys (type_variables (A id))) →

@@ -38,13 +38,13 @@ pub record AreRead (b : Nodes) (N : List ℕ) (As : List Ty) (ids : List TypeId)
 abbrev pub pending : (ℕ → Ty) → List Task → List ℕ
 pending A [] = []
 pending A (task.Visit id ∷ ts) = type_variables (A id.0) ++ pending A ts
-pending A (task.Build id ∷ ts) = pending A ts
+pending A (task.Build id top ∷ ts) = pending A ts
 
 -- what the tasks cost at most: twice the size of a type that is to be read, and one for a type that is to be built
 abbrev pub cost : (ℕ → Ty) → List Task → ℕ
 cost A [] = 0
 cost A (task.Visit id ∷ ts) = 2 * size (A id.0) + cost A ts
-cost A (task.Build id ∷ ts) = suc (cost A ts)
+cost A (task.Build id top ∷ ts) = suc (cost A ts)
 
 -- one type was read off, and then all of a list
 pub record ReadsOne (A : ℕ → Ty) (b : Nodes) (old new : Reading) (id : ℕ) (j : TypeId) : Type 0 where

@@ -7,6 +7,7 @@ use Rattle.lp_syntax.specs.declared.text.RawNode.{RawNode}
 use Rattle.lp_sig.specs.declared.signature.Signature.{Signature}
 use Rattle.lp_sig.specs.Pieces.{spelled}
 use Rattle.lp_infer.specs.Scope.{binds, Undeclared}
+use Rattle.lp_infer.specs.inner.Rooms.{Within}
 use Rattle.lp_infer.specs.declared.names.Names.{Names}
 use Rattle.lp_infer.specs.declared.names.Task.{Task}
 use Rattle.lp_infer.specs.declared.names.Task.TheVariants.{Visit, Leave}
@@ -55,14 +56,14 @@ Tracks scope names = (name : List ℕ) → is_level (level_in names name) ≡ bi
 -- the open abstractions, the innermost first, are those whose ends are among the tasks
 abbrev pub AreOpen : List ℕ → List (List ℕ) → List Task → Type 0
 AreOpen text scope [] = Unit {0}
-AreOpen text scope (Visit n ∷ ts) = AreOpen text scope ts
+AreOpen text scope (Visit n room ∷ ts) = AreOpen text scope ts
 AreOpen text [] (Leave x outside ∷ ts) = ⊥
 AreOpen text (y ∷ ys) (Leave x outside ∷ ts) = (y ≡ spelled text x) × (is_level outside ≡ binds ys y) × AreOpen text ys ts
 
 -- an undeclared name below one of the nodes that are still to be looked at
 abbrev pub Pending : Signature → List ℕ → List RawNode → List (List ℕ) → List Task → Spot → Type 0
 Pending sig text nodes scope [] s = ⊥
-Pending sig text nodes scope (Visit n ∷ ts) s = Undeclared sig text nodes scope n s ⊎ Pending sig text nodes scope ts s
+Pending sig text nodes scope (Visit n room ∷ ts) s = Within sig text nodes room scope n s ⊎ Pending sig text nodes scope ts s
 Pending sig text nodes scope (Leave x outside ∷ ts) s = Pending sig text nodes (rest scope) ts s
 
 -- the first undeclared name is the one that is found or one of those below the tasks, the next task first

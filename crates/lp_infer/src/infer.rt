@@ -60,6 +60,7 @@ fn read_off(
     requires bound { AreKept typing.now.types bindings.now.made }
     requires shallow { All IsShallow steps.now }
     requires parts { HaveParts steps.now 0 }
+    requires known { AreTypesOf typing.now.types typing.now.wanted.items }
     requires wanted { length typing.now.wanted.items ≡ length places.now + all_arguments steps.now }
     ensures kept { Extends bank.old bank.new }
     ensures stands { IfOk result (Stands bank.new) }

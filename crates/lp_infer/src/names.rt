@@ -1,9 +1,10 @@
 // The first name of a text that is not declared.
-ghost use Rattle.std.specs.Prelude.{◌≡◌, ◌∷◌, ℕ, List, None, Some, IfOk, OnOk, Contains, false, reverse};
+ghost use Rattle.std.specs.Prelude.{◌≡◌, ◌<◌, ◌∷◌, ℕ, List, None, Some, IfOk, OnOk, Contains, false, reverse};
 ghost use Rattle.lp_sig.specs.Pieces.{spelled, begins_variable};
 ghost use Rattle.lp_infer.specs.Names.{IsNoConstant, IsNoKind, note_words, words_of};
 ghost use Rattle.lp_infer.specs.Scope.{IsFirstUndeclared};
 ghost use Rattle.lp_infer.specs.Scanning.{Finds, HasLevel, IsEntered, Scanned, level_in};
+ghost use Rattle.lp_infer.specs.inner.Rooms.{turns};
 ghost use Rattle.lp_infer.specs.declared.names.Task.TheVariants.{Visit};
 
 use indexmap::IndexMap;
@@ -14,8 +15,8 @@ use std::alloc::Global;
 
 #[derive(Clone, Copy)]
 enum Task {
-    // A node.
-    Visit(usize),
+    // A node, of which no part is looked at that is so many nodes away or more.
+    Visit(usize, usize),
     // The end of the abstraction that binds the name here, with the level that the name has outside.
     Leave(Spot, Option<u64>),
 }
@@ -181,10 +182,15 @@ impl Names {
         source: &[u8],
         raw: &RawTerm,
         node: usize,
+        room: usize,
         work: &mut Vec<Task>,
     ) -> Result<(), Memory>
-        ensures { OnOk result ((root : ℕ) → Scanned signature.now source.now raw.now.nodes.items root self.old (Visit node ∷ reverse work.old.items) → Scanned signature.now source.now raw.now.nodes.items root self.new (reverse work.new.items)) }
+        ensures fewer { OnOk result (turns (reverse work.new.items) < turns (Visit node room ∷ reverse work.old.items)) }
+        ensures scanned { OnOk result ((root : ℕ) → Scanned signature.now source.now raw.now.nodes.items root self.old (Visit node room ∷ reverse work.old.items) → Scanned signature.now source.now raw.now.nodes.items root self.new (reverse work.new.items)) }
     {
+        if room == 0 {
+            return Ok(());
+        }
         let Some(found) = raw.nodes.get(node) else {
             return Ok(());
         };
@@ -194,14 +200,14 @@ impl Names {
                 Ok(())
             }
             RawNode::App(head, argument) => {
-                work.push(Task::Visit(*argument))?;
-                work.push(Task::Visit(*head))?;
+                work.push(Task::Visit(*argument, room - 1))?;
+                work.push(Task::Visit(*head, room - 1))?;
                 Ok(())
             }
             RawNode::Abs(spot, note, body) => {
                 let outside = self.abstraction(signature, source, *spot, note)?;
                 work.push(Task::Leave(*spot, outside))?;
-                work.push(Task::Visit(*body))?;
+                work.push(Task::Visit(*body, room - 1))?;
                 Ok(())
             }
             _ => Ok(()),
@@ -216,11 +222,12 @@ impl Names {
         task: Task,
         work: &mut Vec<Task>,
     ) -> Result<(), Memory>
-        ensures { OnOk result ((root : ℕ) → Scanned signature.now source.now raw.now.nodes.items root self.old (task ∷ reverse work.old.items) → Scanned signature.now source.now raw.now.nodes.items root self.new (reverse work.new.items)) }
+        ensures fewer { OnOk result (turns (reverse work.new.items) < turns (task ∷ reverse work.old.items)) }
+        ensures scanned { OnOk result ((root : ℕ) → Scanned signature.now source.now raw.now.nodes.items root self.old (task ∷ reverse work.old.items) → Scanned signature.now source.now raw.now.nodes.items root self.new (reverse work.new.items)) }
     {
         match task {
             Task::Leave(spot, outside) => self.leave(spelled_at(source, spot), outside),
-            Task::Visit(node) => self.visit(signature, source, raw, node, work),
+            Task::Visit(node, room) => self.visit(signature, source, raw, node, room, work),
         }
     }
 }
@@ -236,12 +243,9 @@ pub(crate) fn first_undeclared(
 {
     let mut names = Names::new(alloc);
     let mut work = Vec::new(alloc);
-    work.push(Task::Visit(raw.root))?;
-    for _ in 0..u64::MAX {
-        let Some(task) = work.pop() else {
-            return Ok(names.fault);
-        };
+    work.push(Task::Visit(raw.root, raw.nodes.len()))?;
+    while let Some(task) = work.pop() {
         names.take(signature, source, raw, task, &mut work)?;
     }
-    Err(Memory)
+    Ok(names.fault)
 }

@@ -1,13 +1,14 @@
 // What types are under bindings, read off into another bank with sharing; the type variables are numbered by first place.
-ghost use Rattle.std.specs.Prelude.{◌≡◌, ◌<◌, ℕ, List, [], ◌∷◌, ◌++◌, map, reverse, length, IfOk, OnOk, Some, nat_eq, if◌then◌else◌};
+ghost use Rattle.std.specs.Prelude.{◌≡◌, ◌<◌, ℕ, [], ◌∷◌, ◌++◌, map, reverse, length, All, IfOk, OnOk, Some, nat_eq, if◌then◌else◌};
 ghost use Rattle.indexmap.specs.IndexMap.{get};
 ghost use Rattle.indexmap.specs.IndexSet.{insert_key};
-ghost use Rattle.lp_calculus.specs.Types.{Ty, var, param};
-ghost use Rattle.lp_term.specs.Nodes.{Nodes, Extends, type_tree};
+ghost use Rattle.lp_calculus.specs.Types.{Ty, var, param, instance};
+ghost use Rattle.lp_term.specs.Nodes.{Nodes, Extends, type_tree, type_at};
+ghost use Rattle.lp_term.specs.Within.{AreTypesOf};
 ghost use Rattle.lp_type_unify.specs.Reading.{AreKept};
-ghost use Rattle.lp_type_unify.specs.Looking.{IsUnbound};
 ghost use Rattle.lp_infer.specs.Meeting.{place};
 ghost use Rattle.lp_infer.specs.ReadingOff.{bound_type, cost, IsReadAs, IsReadMemo, AreRead, IsTaken, ReadsOne, ReadsAll};
+ghost use Rattle.lp_infer.specs.inner.Waiting.{WasRead, PartsRead, IsPut, IsRead, Serves};
 ghost use Rattle.lp_infer.specs.declared.reading.Task.{Task};
 
 use indexmap::{IndexMap, IndexSet};
@@ -19,7 +20,8 @@ use std::alloc::Global;
 #[derive(Clone, Copy)]
 enum Task {
     Visit(TypeId),
-    Build(TypeId),
+    // A type whose parts are read, and what it is past its bindings.
+    Build(TypeId, TypeId),
 }
 
 #[derive(Drop)]
@@ -37,17 +39,6 @@ fn push_visits(ids: &[TypeId], work: &mut Vec<Task>) -> Result<(), Memory>
         work.push(Task::Visit(id))?;
     }
     Ok(())
-}
-
-// The type past its bindings.
-fn top_of(from: &Bank, bindings: &Bindings, id: TypeId) -> Result<TypeId, Memory>
-    requires { AreKept from.now bindings.now.made }
-    ensures { IfOk result (λ top. (top.0 < length from.now.types) × (bound_type from.now bindings.now.made top.0 ≡ bound_type from.now bindings.now.made id.0) × IsUnbound (get nat_eq bindings.now.made) (type_tree from.now top.0)) }
-{
-    if id.0 >= from.type_count() {
-        return Err(Memory);
-    }
-    Ok(bindings.resolve(from, id))
 }
 
 impl Reading {
@@ -85,56 +76,77 @@ impl Reading {
         self.made.get(&top.0).copied()
     }
 
-    // Keeps what was made of a type.
-    fn keep(&mut self, top: TypeId, made: TypeId) -> Result<(), Memory>
+    fn put(&mut self, id: TypeId, made: TypeId) -> Result<(), Memory>
         ensures numbers { self.new.numbers ≡ self.old.numbers }
-        ensures made { OnOk result ((i : ℕ) → get nat_eq self.new.made i ≡ (if nat_eq top.0 i then Some made.0 else get nat_eq self.old.made i)) }
+        ensures made { OnOk result ((i : ℕ) → get nat_eq self.new.made i ≡ (if nat_eq id.0 i then Some made.0 else get nat_eq self.old.made i)) }
     {
-        self.made.insert(top.0, made.0)?;
+        self.made.insert(id.0, made.0)?;
         Ok(())
     }
 
-    // What was made of a part.
-    fn part(&self, from: &Bank, bindings: &Bindings, id: TypeId) -> Result<TypeId, Memory>
-        requires { AreKept from.now bindings.now.made }
-        ensures { IfOk result (λ j. (b : Nodes) → IsReadMemo (bound_type from.now bindings.now.made) b self.now → IsReadAs b self.now.numbers.keys (bound_type from.now bindings.now.made id.0) j.0) }
+    // Keeps what was made of a type, which is the other one past its bindings.
+    fn keep(&mut self, id: TypeId, top: TypeId, made: TypeId) -> Result<(), Memory>
+        ensures numbers { self.new.numbers ≡ self.old.numbers }
+        ensures made { OnOk result (IsPut id.0 top.0 made.0 self.old self.new) }
     {
-        let top = top_of(from, bindings, id)?;
-        match self.find(top) {
-            Some(made) => Ok(TypeId(made)),
-            None => Err(Memory),
-        }
+        self.put(top, made)?;
+        self.put(id, made)
     }
 
-    fn parts(&self, from: &Bank, bindings: &Bindings, ids: &[TypeId]) -> Result<Vec<TypeId>, Memory>
-        requires { AreKept from.now bindings.now.made }
-        ensures { IfOk result (λ parts. (b : Nodes) → IsReadMemo (bound_type from.now bindings.now.made) b self.now → AreRead b self.now.numbers.keys (map (bound_type from.now bindings.now.made) (map (λ t. t.0) ids.now)) parts.items) }
+    // What was made of a part.
+    fn part(&self, id: TypeId) -> TypeId
+        requires { WasRead self.now id.0 }
+        ensures { (A : ℕ → Ty) → (b : Nodes) → IsReadMemo A b self.now → IsReadAs b self.now.numbers.keys (A id.0) result.0 }
+    {
+        let Some(made) = self.find(id) else {
+            unreachable!()
+        };
+        TypeId(made)
+    }
+
+    fn parts(&self, ids: &[TypeId]) -> Result<Vec<TypeId>, Memory>
+        requires { All (λ t. WasRead self.now t.0) ids.now }
+        ensures { IfOk result (λ parts. (A : ℕ → Ty) → (b : Nodes) → IsReadMemo A b self.now → AreRead b self.now.numbers.keys (map A (map (λ t. t.0) ids.now)) parts.items) }
     {
         let mut parts = Vec::new(self.alloc);
         for id in ids {
-            parts.push(self.part(from, bindings, *id)?)?;
+            parts.push(self.part(*id))?;
         }
         Ok(parts)
     }
 
     // A type variable that is not bound.
-    fn variable(&mut self, variable: u64, top: TypeId, to: &mut Bank) -> Result<(), Memory>
+    fn variable(
+        &mut self,
+        variable: u64,
+        id: TypeId,
+        top: TypeId,
+        to: &mut Bank,
+    ) -> Result<(), Memory>
         ensures kept { Extends to.old to.new }
         ensures goes { OnOk result (self.new.numbers.keys ≡ insert_key nat_eq self.old.numbers.keys variable) }
-        ensures memo { OnOk result ((A : ℕ → Ty) → A top.0 ≡ var variable → IsReadMemo A to.old self.old → IsReadMemo A to.new self.new) }
+        ensures memo { OnOk result ((A : ℕ → Ty) → A id.0 ≡ A top.0 → A top.0 ≡ var variable → IsReadMemo A to.old self.old → IsReadMemo A to.new self.new) }
+        ensures was { OnOk result (IsRead id.0 self.old self.new) }
     {
         let number = self.number(variable)?;
         let made = put_type_variable(to, number)?;
-        self.keep(top, made)
+        self.keep(id, top, made)
     }
 
-    fn parameter(&mut self, number: u64, top: TypeId, to: &mut Bank) -> Result<(), Memory>
+    fn parameter(
+        &mut self,
+        number: u64,
+        id: TypeId,
+        top: TypeId,
+        to: &mut Bank,
+    ) -> Result<(), Memory>
         ensures kept { Extends to.old to.new }
         ensures numbers { self.new.numbers ≡ self.old.numbers }
-        ensures memo { OnOk result ((A : ℕ → Ty) → A top.0 ≡ param number → IsReadMemo A to.old self.old → IsReadMemo A to.new self.new) }
+        ensures memo { OnOk result ((A : ℕ → Ty) → A id.0 ≡ A top.0 → A top.0 ≡ param number → IsReadMemo A to.old self.old → IsReadMemo A to.new self.new) }
+        ensures was { OnOk result (IsRead id.0 self.old self.new) }
     {
         let made = to.put_type(TypeNode::Param(number))?;
-        self.keep(top, made)
+        self.keep(id, top, made)
     }
 
     fn visit(
@@ -145,24 +157,26 @@ impl Reading {
         to: &mut Bank,
         work: &mut Vec<Task>,
     ) -> Result<(), Memory>
-        requires { AreKept from.now bindings.now.made }
+        requires kept { AreKept from.now bindings.now.made }
+        requires known { id.0 < length from.now.types }
         ensures kept { Extends to.old to.new }
         ensures taken { OnOk result (IsTaken (bound_type from.now bindings.now.made) to.old to.new self.old self.new (Task.Visit id ∷ reverse work.old.items) (reverse work.new.items)) }
         ensures fewer { OnOk result (cost (bound_type from.now bindings.now.made) (reverse work.new.items) < cost (bound_type from.now bindings.now.made) (Task.Visit id ∷ reverse work.old.items)) }
+        ensures serves { OnOk result ((root : ℕ) → Serves (bound_type from.now bindings.now.made) from.now root (WasRead self.old) (Task.Visit id ∷ reverse work.old.items) → Serves (bound_type from.now bindings.now.made) from.now root (WasRead self.new) (reverse work.new.items)) }
     {
-        let top = top_of(from, bindings, id)?;
-        if self.find(top).is_some() {
-            return Ok(());
+        let top = bindings.resolve(from, id);
+        if let Some(made) = self.find(top) {
+            return self.keep(id, top, TypeId(made));
         }
         match from.type_node(top) {
-            TypeNode::Var(variable) => self.variable(variable, top, to),
-            TypeNode::Param(number) => self.parameter(number, top, to),
+            TypeNode::Var(variable) => self.variable(variable, id, top, to),
+            TypeNode::Param(number) => self.parameter(number, id, top, to),
             TypeNode::Con(_, ids) => {
-                work.push(Task::Build(top))?;
+                work.push(Task::Build(id, top))?;
                 push_visits(ids, work)
             }
             TypeNode::Arrow(left, right) => {
-                work.push(Task::Build(top))?;
+                work.push(Task::Build(id, top))?;
                 work.push(Task::Visit(right))?;
                 work.push(Task::Visit(left))?;
                 Ok(())
@@ -170,31 +184,26 @@ impl Reading {
         }
     }
 
-    fn build(
-        &mut self,
-        from: &Bank,
-        bindings: &Bindings,
-        top: TypeId,
-        to: &mut Bank,
-    ) -> Result<(), Memory>
-        requires { AreKept from.now bindings.now.made }
+    fn build(&mut self, from: &Bank, id: TypeId, top: TypeId, to: &mut Bank) -> Result<(), Memory>
+        requires { PartsRead (WasRead self.old) (type_at from.now top.0) }
         ensures kept { Extends to.old to.new }
         ensures numbers { self.new.numbers ≡ self.old.numbers }
-        ensures memo { OnOk result (IsReadMemo (bound_type from.now bindings.now.made) to.old self.old → IsReadMemo (bound_type from.now bindings.now.made) to.new self.new) }
+        ensures memo { OnOk result ((θ : ℕ → Ty) → instance θ (type_tree from.now id.0) ≡ instance θ (type_tree from.now top.0) → IsReadMemo (λ i. instance θ (type_tree from.now i)) to.old self.old → IsReadMemo (λ i. instance θ (type_tree from.now i)) to.new self.new) }
+        ensures was { OnOk result (IsRead id.0 self.old self.new) }
     {
         match from.type_node(top) {
-            TypeNode::Var(_) => Ok(()),
-            TypeNode::Param(_) => Ok(()),
+            TypeNode::Var(_) => unreachable!(),
+            TypeNode::Param(_) => unreachable!(),
             TypeNode::Con(kind, ids) => {
-                let parts = self.parts(from, bindings, ids)?;
+                let parts = self.parts(ids)?;
                 let made = put_constructor(to, kind, parts.as_slice())?;
-                self.keep(top, made)
+                self.keep(id, top, made)
             }
             TypeNode::Arrow(left, right) => {
-                let one = self.part(from, bindings, left)?;
-                let other = self.part(from, bindings, right)?;
+                let one = self.part(left);
+                let other = self.part(right);
                 let made = put_arrow(to, one, other)?;
-                self.keep(top, made)
+                self.keep(id, top, made)
             }
         }
     }
@@ -207,14 +216,16 @@ impl Reading {
         to: &mut Bank,
         work: &mut Vec<Task>,
     ) -> Result<(), Memory>
-        requires { AreKept from.now bindings.now.made }
+        requires kept { AreKept from.now bindings.now.made }
+        requires serves { (root : ℕ) × Serves (bound_type from.now bindings.now.made) from.now root (WasRead self.old) (task ∷ reverse work.old.items) }
         ensures kept { Extends to.old to.new }
         ensures taken { OnOk result (IsTaken (bound_type from.now bindings.now.made) to.old to.new self.old self.new (task ∷ reverse work.old.items) (reverse work.new.items)) }
         ensures fewer { OnOk result (cost (bound_type from.now bindings.now.made) (reverse work.new.items) < cost (bound_type from.now bindings.now.made) (task ∷ reverse work.old.items)) }
+        ensures serves { OnOk result ((root : ℕ) → Serves (bound_type from.now bindings.now.made) from.now root (WasRead self.old) (task ∷ reverse work.old.items) → Serves (bound_type from.now bindings.now.made) from.now root (WasRead self.new) (reverse work.new.items)) }
     {
         match task {
             Task::Visit(id) => self.visit(from, bindings, id, to, work),
-            Task::Build(top) => self.build(from, bindings, top, to),
+            Task::Build(id, top) => self.build(from, id, top, to),
         }
     }
 
@@ -225,7 +236,8 @@ impl Reading {
         id: TypeId,
         to: &mut Bank,
     ) -> Result<TypeId, Memory>
-        requires { AreKept from.now bindings.now.made }
+        requires kept { AreKept from.now bindings.now.made }
+        requires known { id.0 < length from.now.types }
         ensures kept { Extends to.old to.new }
         ensures read { IfOk result (λ j. IsReadMemo (bound_type from.now bindings.now.made) to.old self.old → ReadsOne (bound_type from.now bindings.now.made) to.new self.old self.new id.0 j) }
     {
@@ -234,7 +246,7 @@ impl Reading {
         while let Some(task) = work.pop() {
             self.take(from, bindings, task, to, &mut work)?;
         }
-        self.part(from, bindings, id)
+        Ok(self.part(id))
     }
 
     pub(crate) fn read_all(
@@ -244,7 +256,8 @@ impl Reading {
         ids: &[TypeId],
         to: &mut Bank,
     ) -> Result<Vec<TypeId>, Memory>
-        requires { AreKept from.now bindings.now.made }
+        requires kept { AreKept from.now bindings.now.made }
+        requires known { AreTypesOf from.now ids.now }
         ensures kept { Extends to.old to.new }
         ensures read { IfOk result (λ made. IsReadMemo (bound_type from.now bindings.now.made) to.old self.old → ReadsAll (bound_type from.now bindings.now.made) to.new self.old self.new ids.now made.items) }
     {

@@ -50,3 +50,6 @@ formula-requires-clause-arguments c =
     let R = c.in_ok-types.ensures.read (c.new-reading.ensures.memo A c.args.bank.now) in
     let many = read_many A c.read_all.new.to c.new-reading.result c.read_all.new.self c.as_slice.result.now c.in_ok-types.types.items R in
     omega (arith, many, ap length c.as_slice.ensures.value, ap length c.as_slice-2.ensures.value, c.new-terms.ensures.used, c.requires.wanted)
+
+pub read_all-requires-clause-known : goal.read_all-requires-clause-known
+read_all-requires-clause-known c = subst (AreTypesOf c.args.typing.now.types) (sym c.as_slice.ensures.value) c.requires.known

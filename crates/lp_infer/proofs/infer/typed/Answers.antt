@@ -72,3 +72,8 @@ read_off-requires-clause-wanted c =
     let same : c.as_slice.result.now ≡ c.as_slice-in-Some.result.now = c.as_slice.ensures.value ∙ sym c.as_slice-in-Some.ensures.value in
     let places : c.len-2.result ≡ length c.as_slice-in-Some-2.result.now = omega (arith, c.len-2.ensures, text.variables.places.ok, ap length c.as_slice-in-Some-2.ensures.value) in
     many ∙ ap (λ ss. c.len-2.result + all_arguments ss) same ∙ ap (λ n. n + all_arguments c.as_slice-in-Some.result.now) places
+
+pub read_off-requires-clause-known : goal.read_off-requires-clause-known
+read_off-requires-clause-known c =
+    let text = c.args.text in
+    (c.in_ok-typing.ensures (subst (All (IsStep (length text.types.types))) (sym c.as_slice.ensures.value) c.requires.1.known) c.args.source.now).wanted

@@ -1,6 +1,8 @@
-use Rattle.std.proofs.Common.{◌∙◌, sym, subst}
-use Rattle.lp_infer.specs.ReadingOff.{IsReadAs}
+use Rattle.std.proofs.Common.{◌∙◌, sym}
 use Rattle.lp_infer.proofs.reading.Reading.part.Goals as goal
 
-pub returns-in-Some : goal.returns-in-Some
-returns-in-Some c = λ b M. subst (λ T. IsReadAs b c.args.self.now.numbers.keys T c.in-Some.made) c.in_ok-top.ensures.1 (M c.in_ok-top.top.0 c.in-Some.made (sym c.find.ensures ∙ c.in-Some.is))
+pub returns : goal.returns
+returns c = λ A b M. M c.args.id.0 c.in-Some.made (sym c.find.ensures ∙ c.in-Some.is)
+
+pub unreachable-requires : goal.unreachable-requires
+unreachable-requires c = c.requires (sym c.find.ensures ∙ c.in_default.is)

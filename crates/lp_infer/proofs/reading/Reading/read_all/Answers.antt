@@ -23,3 +23,6 @@ loop-id-preserved c =
 
 pub returns-clause-read : goal.returns-clause-read
 returns-clause-read c = λ M. subst (λ l. ReadsAll (bound_type c.args.from.now c.args.bindings.now.made) c.loop-id.to c.args.self.now c.loop-id.self l c.loop-id.types.items) (take_all c.loop-id.id-index c.args.ids.now c.loop-id-test.false) (c.loop-id.invariant.read M)
+
+pub read-requires-clause-known : goal.read-requires-clause-known
+read-requires-clause-known c = c.requires.known c.loop-id.id-index _ c.loop-id-test.true
