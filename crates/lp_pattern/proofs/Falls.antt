@@ -2,12 +2,14 @@
 use Rattle.std.proofs.Common.{◌≡◌, ℕ, suc, ◌+◌, ◌*◌, ◌<◌, ◌≤◌, List, [], ◌∷◌, ◌++◌, ap, ◌∙◌, sym, subst as transport, arith, Bool, true, false}
 use Rattle.std.specs.Prelude.{◌||◌, if◌then◌else◌}
 use Rattle.std.proofs.lemmas.List.{reverse-append}
+use Rattle.std.proofs.Math.Nat.{mul-le-mul_right}
 use Rattle.lp_calculus.specs.Term.{Term, index, atom, abs, app}
 use Rattle.lp_calculus.specs.Normal.{nodes}
 use Rattle.lp_model.specs.declared.answer.Pair.{Pair}
 use Rattle.lp_term.specs.Facts.{IsGround}
 use Rattle.lp_pattern.specs.declared.scan.Visit.{Visit}
-use Rattle.lp_pattern.specs.inner.Falling.{walk_left, first_depth, depth_on_top, first_level, level_on_top}
+use Rattle.lp_pattern.specs.declared.look.Spine.{Spine}
+use Rattle.lp_pattern.specs.inner.Falling.{look_left, walk_left, first_depth, depth_on_top, first_level, level_on_top}
 
 pub unit_falls : (u v d e : ℕ) → u < v → walk_left u d < walk_left v e
 unit_falls u v d e h = omega (arith, h)
@@ -46,3 +48,20 @@ ground_node (app t u) g = let n = ground_node t g.0 in omega (arith, n)
 pub round_falls : (has is : Bool) (u v : ℕ) → (has || is) ≡ true → u ≤ v → (is ≡ true → u < v) → u * 2 + (if false then 1 else 0) < v * 2 + (if has then 1 else 0)
 round_falls true is u v e l h = omega (arith, l)
 round_falls false is u v e l h = let k = h e in omega (arith, k)
+
+-- a look goes on: a value is put, terms are contracted, arguments are taken off
+
+pub value_falls : (v : ℕ) (old new : Spine) → new.left ≡ old.left → old.values ≡ suc new.values → new.top.0 < 4611686018427387904 → look_left v new < look_left v old
+value_falls v old new l e t =
+    let a : new.left * suc v ≡ old.left * suc v = ap (λ x. x * suc v) l in
+    omega (arith, a, e, t)
+
+pub contraction_falls : (v : ℕ) (old new : Spine) → new.left < old.left → new.values ≡ v → new.top.0 < 4611686018427387904 → look_left v new < look_left v old
+contraction_falls v old new l e t =
+    let a : suc new.left * suc v ≤ old.left * suc v = mul-le-mul_right (suc v) l in
+    omega (arith, a, e, t)
+
+pub head_falls : (v : ℕ) (old new : Spine) → new.left ≡ old.left → new.values ≡ old.values → new.top.0 < old.top.0 → look_left v new < look_left v old
+head_falls v old new l e t =
+    let a : new.left * suc v ≡ old.left * suc v = ap (λ x. x * suc v) l in
+    omega (arith, a, e, t)

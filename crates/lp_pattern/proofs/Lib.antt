@@ -66,3 +66,4 @@ pub mod TypedRuns
 mod Grounds
 mod Enough
 mod Falls
+mod TasksFall

@@ -6,6 +6,7 @@ ghost use Rattle.lp_term.specs.Spine.{LooseBelow};
 ghost use Rattle.lp_term.specs.Frame.{in_order};
 ghost use Rattle.lp_term.specs.Several.{substitute_each};
 ghost use Rattle.lp_model.specs.Pair.{Closing, closed};
+ghost use Rattle.lp_pattern.specs.inner.Falling.{Unless, look_left};
 ghost use Rattle.lp_pattern.specs.Under.{IsReading, under};
 ghost use Rattle.lp_pattern.specs.Seen.{IsHead, IsLooked, IsReachedWithin, IsDeepWhere, Sees, at_hand, Stands, Follows};
 
@@ -39,13 +40,14 @@ pub(crate) struct Looked {
 }
 
 // A term on the way to its head: the head so far, its arguments, of which the last comes first, the number of the whole term where it has
-// one, and how many contractions are left.
+// one, how many contractions are left, and how many values may be put before the next one.
 #[derive(Drop)]
 pub(crate) struct Spine {
     top: TermId,
     arguments: Vec<TermId>,
     whole: Option<TermId>,
     left: u64,
+    values: usize,
 }
 
 // Puts the terms behind the others, the last one first.
@@ -118,6 +120,7 @@ fn contract(
     ensures left { OnOk result (spine.new.left ≤ spine.old.left) }
     ensures followed { OnOk result ((c : Closing) → Follows c bank.old spine.old bank.new spine.new) }
     ensures head { IfOk result (λ found. IfSome found (λ head. IsHead bank.new bindings.now head (tree bank.new spine.new.top.0) spine.new.arguments.items)) }
+    ensures falls { IfOk result (λ found. Unless found (look_left (length bindings.now.terms.entries) spine.new < look_left (length bindings.now.terms.entries) spine.old)) }
     ensures refused { IfErr result (λ e. (c : Closing) → IsDeepWhere spine.old.left (closed c (at_hand bank.old spine.old)) e) }
 {
     if spine.arguments.is_empty() {
@@ -135,10 +138,13 @@ fn contract(
     spine.top = top;
     spine.whole = alone(top, &spine.arguments);
     spine.left -= more + 1;
+    spine.values = bindings.terms.len();
+    let _count = bank.term_count();
     Ok(None)
 }
 
-// A bound variable gives way to its value.
+// A bound variable gives way to its value. More values in a row than there are bindings lead in a circle, which has no end: in bindings
+// that were made over another bank.
 fn put_value(
     bank: &mut Bank,
     bindings: &Bindings,
@@ -153,13 +159,19 @@ fn put_value(
     ensures left { OnOk result (spine.new.left ≤ spine.old.left) }
     ensures followed { OnOk result ((c : Closing) → IsReading bank.old bindings.now c → Follows c bank.old spine.old bank.new spine.new) }
     ensures head { IfOk result (λ found. IfSome found (λ head. IsHead bank.new bindings.now head (tree bank.new spine.new.top.0) spine.new.arguments.items)) }
+    ensures falls { IfOk result (λ found. Unless found (look_left (length bindings.now.terms.entries) spine.new < look_left (length bindings.now.terms.entries) spine.old)) }
 {
     let Some(value) = bindings.value(id) else {
         return Ok(Some(Head::Variable { id, level }));
     };
+    if spine.values == 0 {
+        return Err(Memory);
+    }
     let top = bank.inside(value)?;
     spine.top = top;
     spine.whole = alone(top, &spine.arguments);
+    spine.values -= 1;
+    let _count = bank.term_count();
     Ok(None)
 }
 
@@ -176,6 +188,7 @@ fn step(
     ensures left { OnOk result (spine.new.left ≤ spine.old.left) }
     ensures followed { OnOk result ((c : Closing) → IsReading bank.old bindings.now c → Follows c bank.old spine.old bank.new spine.new) }
     ensures head { IfOk result (λ found. IfSome found (λ head. IsHead bank.new bindings.now head (tree bank.new spine.new.top.0) spine.new.arguments.items)) }
+    ensures falls { IfOk result (λ found. Unless found (look_left (length bindings.now.terms.entries) spine.new < look_left (length bindings.now.terms.entries) spine.old)) }
     ensures refused { IfErr result (λ e. (c : Closing) → IsDeepWhere spine.old.left (closed c (at_hand bank.old spine.old)) e) }
 {
     match bank.term_node(spine.top) {
@@ -257,13 +270,13 @@ pub(crate) fn look(
         arguments: Vec::new(alloc),
         whole: Some(top),
         left: limit,
+        values: bindings.terms.len(),
     };
-    'steps: for _ in 0..u64::MAX {
+    'steps: loop {
         let found = step(alloc, bank, bindings, &mut spine)?;
         if let Some(head) = found {
             let looked = seen(bank, bindings, spine, head)?;
             return Ok(looked);
         }
     }
-    Err(TermRefusal::Memory)
 }

@@ -9,6 +9,7 @@ ghost use Rattle.lp_model.specs.Pair.{Closing};
 ghost use Rattle.lp_model.specs.Scan.{settle};
 ghost use Rattle.lp_pattern.specs.declared.look.Head.TheVariants.{Abstraction, Variable, Rigid};
 ghost use Rattle.lp_pattern.specs.declared.settle.Task.TheVariants.{Visit, Abstract, Apply};
+ghost use Rattle.lp_pattern.specs.inner.Falling.{tasks_left};
 ghost use Rattle.lp_pattern.specs.Refusing.{IsNoFailure, IsNothing};
 ghost use Rattle.lp_pattern.specs.Scanning.{AreTerms};
 ghost use Rattle.lp_pattern.specs.Seen.{IsLooked, IsRigid};
@@ -243,6 +244,7 @@ fn visit_body(
     requires head { looked.now.head ≡ Abstraction body }
     ensures moves { OnOk result (Moves bank.now bank.now bindings.now side.now.eigens.items (work.old.tasks.items ++ Visit looked.now.whole opened ∷ []) work.old.made.items work.new.tasks.items work.new.made.items) }
     ensures enough { OnOk result (AreEnough (Visit looked.now.whole opened ∷ reverse work.old.tasks.items) (length work.old.made.items) → AreEnough (reverse work.new.tasks.items) (length work.new.made.items)) }
+    ensures falls { OnOk result (tasks_left work.new.tasks.items < tasks_left (work.old.tasks.items ++ Visit looked.now.whole opened ∷ [])) }
 {
     let inner = opened.one_more()?;
     work.tasks.push(Task::Abstract(looked.whole, body))?;
@@ -264,6 +266,7 @@ fn visit_rigid(
     ensures kept { Extends bank.old bank.new }
     ensures moves { OnOk result (Moves bank.old bank.new bindings.now side.now.eigens.items (work.old.tasks.items ++ Visit looked.now.whole opened ∷ []) work.old.made.items work.new.tasks.items work.new.made.items) }
     ensures enough { OnOk result (AreEnough (Visit looked.now.whole opened ∷ reverse work.old.tasks.items) (length work.old.made.items) → AreEnough (reverse work.new.tasks.items) (length work.new.made.items)) }
+    ensures falls { OnOk result (tasks_left work.new.tasks.items < tasks_left (work.old.tasks.items ++ Visit looked.now.whole opened ∷ [])) }
 {
     let head = head_in(bank, side, opened, looked.top)?;
     push_application(alloc, work, looked, head, opened)
@@ -287,6 +290,7 @@ fn visit_variable(
     ensures unfailing { IfErr result IsNoFailure }
     ensures refused { IfErr result (λ e. StopsSettling e bank.old bindings.now side.now.eigens.items (work.old.tasks.items ++ Visit looked.now.whole opened ∷ []) work.old.made.items) }
     ensures enough { OnOk result (AreEnough (Visit looked.now.whole opened ∷ reverse work.old.tasks.items) (length work.old.made.items) → AreEnough (reverse work.new.tasks.items) (length work.new.made.items)) }
+    ensures falls { OnOk result (tasks_left work.new.tasks.items < tasks_left (work.old.tasks.items ++ Visit looked.now.whole opened ∷ [])) }
 {
     let arguments = looked.arguments.as_slice();
     let pattern = pattern_of(alloc, bank, bindings, opened, level, arguments)?;
@@ -317,6 +321,7 @@ fn visit_seen(
     ensures unfailing { IfErr result IsNoFailure }
     ensures refused { IfErr result (λ e. StopsSettling e bank.old bindings.now side.now.eigens.items (work.old.tasks.items ++ Visit looked.now.whole opened ∷ []) work.old.made.items) }
     ensures enough { OnOk result (AreEnough (Visit looked.now.whole opened ∷ reverse work.old.tasks.items) (length work.old.made.items) → AreEnough (reverse work.new.tasks.items) (length work.new.made.items)) }
+    ensures falls { OnOk result (tasks_left work.new.tasks.items < tasks_left (work.old.tasks.items ++ Visit looked.now.whole opened ∷ [])) }
 {
     match looked.head {
         Head::Abstraction(body) => {
@@ -347,6 +352,7 @@ fn visit(
     ensures unfailing { IfErr result IsNoFailure }
     ensures refused { IfErr result (λ e. StopsSettling e bank.old bindings.now side.now.eigens.items (work.old.tasks.items ++ Visit term opened ∷ []) work.old.made.items) }
     ensures enough { OnOk result (AreEnough (Visit term opened ∷ reverse work.old.tasks.items) (length work.old.made.items) → AreEnough (reverse work.new.tasks.items) (length work.new.made.items)) }
+    ensures falls { OnOk result (tasks_left work.new.tasks.items < tasks_left (work.old.tasks.items ++ Visit term opened ∷ [])) }
 {
     // A ground term is settled as it stands.
     if let Some(_nodes) = bank.ground_nodes(term) {
@@ -438,6 +444,7 @@ fn step(
     ensures unfailing { IfErr result IsNoFailure }
     ensures refused { IfErr result (λ e. StopsSettling e bank.old bindings.now side.now.eigens.items (work.old.tasks.items ++ task ∷ []) work.old.made.items) }
     ensures enough { OnOk result (AreEnough (reverse work.new.tasks.items) (length work.new.made.items)) }
+    ensures falls { OnOk result (tasks_left work.new.tasks.items < tasks_left (work.old.tasks.items ++ task ∷ [])) }
 {
     match task {
         Task::Visit(term, opened) => visit(alloc, bank, bindings, side, work, term, opened),
@@ -471,7 +478,7 @@ pub(crate) fn settled(
     tasks.push(Task::Visit(term, side.closed()))?;
     let made = Vec::new(alloc);
     let mut work = Work { tasks, made };
-    'tasks: for _ in 0..u64::MAX {
+    'tasks: loop {
         let Some(task) = work.tasks.pop() else {
             let Some(body) = work.made.pop() else {
                 unreachable!()
@@ -481,5 +488,4 @@ pub(crate) fn settled(
         };
         step(alloc, bank, bindings, side, &mut work, task)?;
     }
-    Err(PatternRefusal::Memory)
 }

@@ -1,9 +1,10 @@
-use Rattle.std.proofs.Common.{arith, ◌≤◌, refl, Some}
+use Rattle.std.proofs.Common.{arith, ◌<◌, ◌≤◌, refl, length, Some, subst as transport}
 use Rattle.lp_term.proofs.Trees.{extends-trans}
 use Rattle.lp_term.proofs.Moves.{passed_up}
 use Rattle.lp_model.specs.Pair.{Closing, closed}
 use Rattle.lp_pattern.specs.declared.look.Spine.{Spine}
 use Rattle.lp_pattern.specs.Under.{IsReading, under}
+use Rattle.lp_pattern.specs.inner.Falling.{Unless, look_left}
 use Rattle.lp_pattern.specs.Seen.{IsDeepWhere, at_hand}
 use Rattle.lp_pattern.proofs.Walking.{reading_kept, deep_later, follows_on, ended_within, sees, start_stands, start_follows}
 use Rattle.lp_pattern.proofs.look.look.Goals as goal
@@ -47,10 +48,15 @@ steps-preserved c = record {
 
 pub steps-init : goal.steps-init
 steps-init c =
-    let s : Spine = record { top = c.in_ok-top.top; arguments = c.new.result; whole = Some c.in_ok-top.top; left = c.args.limit } in
+    let s : Spine = record { top = c.in_ok-top.top; arguments = c.new.result; whole = Some c.in_ok-top.top; left = c.args.limit; values = c.len.result } in
     record {
       kept = c.in_ok-top.ensures.kept;
       stands = start_stands c.inside.new.self s c.in_ok-top.ensures.within refl c.new.ensures.items;
       left = omega arith;
       followed = λ r i. start_follows r c.args.bank.now c.inside.new.self c.args.term s c.args.limit c.in_ok-top.ensures.tree c.new.ensures.items;
     }
+
+pub steps-smaller : goal.steps-smaller
+steps-smaller c =
+    let v = length c.args.bindings.now.terms.entries in
+    transport (λ o. Unless o (look_left v c.step.new.spine < look_left v c.steps.spine)) c.in_default.is c.in_ok-found.ensures.falls

@@ -12,6 +12,7 @@ use Rattle.lp_pattern.proofs.GivenUp.{given_before, nothing_given}
 use Rattle.lp_pattern.proofs.Walking.{reading_kept}
 use Rattle.lp_pattern.proofs.Enough.{first_enough, last_enough, popped_enough}
 use Rattle.lp_pattern.proofs.SettleMoves.{settle_begins, settle_ends, settle_goes}
+use Rattle.lp_pattern.specs.inner.Falling.{tasks_left}
 use Rattle.lp_pattern.proofs.settle.settled.Goals as goal
 
 pub tasks-init : goal.tasks-init
@@ -59,3 +60,6 @@ pub unreachable-requires : goal.unreachable-requires
 unreachable-requires c =
     let some = last_enough c.tasks.work.tasks.items (length c.tasks.work.made.items) (nothing c.tasks.work.tasks.items (omega (arith, c.in_default.ensures.cases.0, c.tasks.work.tasks.ok))) c.tasks.invariant.enough in
     omega (arith, some, c.in_default-pop.ensures.cases.0, c.tasks.work.made.ok)
+
+pub tasks-smaller : goal.tasks-smaller
+tasks-smaller c = transport (λ l. tasks_left c.step.new.work.tasks.items < tasks_left l) (sym c.in-Some.ensures.items) c.in_ok-step.ensures.falls

@@ -6,6 +6,8 @@ use Rattle.lp_pattern.proofs.Results.{err_and, if_err}
 use Rattle.lp_pattern.proofs.Grounds.{ground_moves}
 use Rattle.std.proofs.Common.{reverse}
 use Rattle.lp_pattern.proofs.Enough.{made_enough}
+use Rattle.lp_pattern.specs.inner.Falling.{tasks_left}
+use Rattle.lp_pattern.proofs.TasksFall.{visit_as, visit_done}
 use Rattle.lp_pattern.proofs.settle.visit.Goals as goal
 
 pub returns-in-Some-clause-moves : goal.returns-in-Some-clause-moves
@@ -37,3 +39,10 @@ returns-in-Some-clause-enough c = λ h. made_enough (reverse c.args.work.now.tas
 
 pub returns-clause-enough : goal.returns-clause-enough
 returns-clause-enough c = c.visit_seen.ensures.enough
+
+pub returns-in-Some-clause-falls : goal.returns-in-Some-clause-falls
+returns-in-Some-clause-falls c = visit_done c.args.work.now.tasks.items c.args.term c.args.opened
+
+pub returns-clause-falls : goal.returns-clause-falls
+returns-clause-falls c =
+    on_ok c.visit_seen.result _ _ (λ f. visit_as c.args.work.now.tasks.items c.args.term c.in_ok-looked.looked.whole c.args.opened (tasks_left c.visit_seen.new.work.tasks.items) f) c.visit_seen.ensures.falls

@@ -14,6 +14,8 @@ use Rattle.lp_pattern.proofs.SettleMoves.{open_moves, pattern_moves}
 use Rattle.std.proofs.Common.{reverse}
 use Rattle.lp_pattern.specs.Settling.{AreEnough}
 use Rattle.lp_pattern.proofs.Enough.{made_enough, pushed_enough}
+use Rattle.std.proofs.Common.{arith}
+use Rattle.lp_pattern.proofs.TasksFall.{parts_left, visit_done}
 use Rattle.lp_pattern.proofs.settle.visit_variable.Goals as goal
 
 pub returns-in_default-clause-moves : goal.returns-in_default-clause-moves
@@ -68,3 +70,11 @@ returns-in_default-clause-enough c = λ h.
 
 pub returns-clause-enough : goal.returns-clause-enough
 returns-clause-enough c = λ h. made_enough (reverse c.args.work.now.tasks.items) c.args.work.now.made.items c.push.new.self.items c.in_ok-made.made c.in_ok-push.ensures.items h
+
+pub returns-in_default-clause-falls : goal.returns-in_default-clause-falls
+returns-in_default-clause-falls c =
+    parts_left c.args.looked.now c.args.looked.now.top c.args.opened c.args.opened c.args.work.now.tasks.items c.push_application.new.work.tasks.items c.args.looked.now.whole c.in_ok-push_application.ensures.pushed
+    (omega (arith, c.args.work.now.tasks.ok, c.args.work.now.tasks.small)) (omega (arith, c.args.looked.now.arguments.ok, c.args.looked.now.arguments.small))
+
+pub returns-clause-falls : goal.returns-clause-falls
+returns-clause-falls c = visit_done c.args.work.now.tasks.items c.args.looked.now.whole c.args.opened
