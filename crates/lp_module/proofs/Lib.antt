@@ -32,3 +32,4 @@ pub mod HighNumbers
 pub mod NumberedSignatures
 pub mod Joins
 pub mod Ending
+pub mod NumbersByPlace

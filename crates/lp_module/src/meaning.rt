@@ -1,5 +1,5 @@
 // What a module means.
-ghost use Rattle.std.specs.Prelude.{◌≡◌, ◌≢◌, ◌+◌, ◌-◌, ◌≤◌, ◌⊎◌, ℕ, Option, length, map, All, IfOk, IfErr, OnOk};
+ghost use Rattle.std.specs.Prelude.{◌≡◌, ◌≢◌, ◌+◌, ◌-◌, ◌<◌, ◌≤◌, ◌⊎◌, ℕ, Option, length, map, All, IfOk, IfErr, OnOk};
 ghost use Rattle.std.specs.List.{range_with_len};
 ghost use Rattle.lp_calculus.specs.Typing.{Scheme};
 ghost use Rattle.lp_sig.specs.Pieces.{spelled};
@@ -9,6 +9,7 @@ ghost use Rattle.lp_module.specs.Schemes.{declared_schemes};
 ghost use Rattle.lp_module.specs.Sentences.{said, AreWithin};
 ghost use Rattle.lp_module.specs.Words.{accumulate_words};
 ghost use Rattle.lp_module.specs.inner.Judging.{AreHeads};
+ghost use Rattle.lp_module.specs.inner.Numbered.{AreNumberedKinds, AreNumberedConstants};
 ghost use Rattle.lp_module.specs.inner.Typed.{IsFormedIn, IsFirstUnformed};
 ghost use Rattle.lp_module.specs.declared.fault.ModuleFault.TheVariants as fault;
 
@@ -22,7 +23,7 @@ use crate::words::accumulated;
 use lp_base::Memory;
 use lp_infer::InferFault;
 use lp_sig::{
-    FIRST_CONSTANT, FIRST_KIND, ModuleSigFault, SigFault, Signature, module_signature, spelled_at,
+    ConstantEntry, KindEntry, ModuleSigFault, SigFault, Signature, module_signature, spelled_at,
 };
 use lp_syntax::ModuleText;
 use lp_term::{Bank, Changed, Same};
@@ -63,22 +64,52 @@ fn declaration_fault(fault: ModuleSigFault) -> ModuleFault
     }
 }
 
-// The numbers of the names behind the exported ones. A signature has far fewer names than there are numbers.
-fn hidden_numbers(
-    alloc: Global,
-    first: u32,
-    exported: usize,
-    all: usize,
-) -> Result<Vec<u32>, Memory>
-    ensures { IfOk result (λ numbers. numbers.items ≡ range_with_len (first + exported) (all - exported)) }
+// The number of a kind by its place.
+fn kind_number(kinds: &[KindEntry], at: usize) -> u32
+    requires at { at < length kinds.now }
+    requires numbered { AreNumberedKinds kinds.now }
+    ensures { result ≡ 8 + at }
 {
-    if all > (u32::MAX - first) as usize {
-        return Err(Memory);
-    }
-    let count = all.saturating_sub(exported);
+    kinds[at].number
+}
+
+// The numbers of the kinds behind the exported ones.
+fn kinds_behind(alloc: Global, exported: usize, kinds: &[KindEntry]) -> Result<Vec<u32>, Memory>
+    requires { AreNumberedKinds kinds.now }
+    ensures { IfOk result (λ numbers. numbers.items ≡ range_with_len (8 + exported) (length kinds.now - exported)) }
+{
+    let count = kinds.len().saturating_sub(exported);
     let mut numbers = Vec::new(alloc);
     for at in 0..count {
-        numbers.push(first + (exported + at) as u32)?;
+        let number = kind_number(kinds, exported + at);
+        numbers.push(number)?;
+    }
+    Ok(numbers)
+}
+
+// The number of a constant by its place.
+fn constant_number(constants: &[ConstantEntry], at: usize) -> u32
+    requires at { at < length constants.now }
+    requires numbered { AreNumberedConstants constants.now }
+    ensures { result ≡ 32 + at }
+{
+    constants[at].number
+}
+
+// The numbers of the constants behind the exported ones.
+fn constants_behind(
+    alloc: Global,
+    exported: usize,
+    constants: &[ConstantEntry],
+) -> Result<Vec<u32>, Memory>
+    requires { AreNumberedConstants constants.now }
+    ensures { IfOk result (λ numbers. numbers.items ≡ range_with_len (32 + exported) (length constants.now - exported)) }
+{
+    let count = constants.len().saturating_sub(exported);
+    let mut numbers = Vec::new(alloc);
+    for at in 0..count {
+        let number = constant_number(constants, exported + at);
+        numbers.push(number)?;
     }
     Ok(numbers)
 }
@@ -176,18 +207,8 @@ pub fn elaborate(
     check_clauses(alloc, &signature, &bank, sentences.as_slice())?;
     let name = Vec::from_slice(alloc, expected.as_bytes())?;
     let uses = uses_of(alloc, source, text)?;
-    let hidden_kinds = hidden_numbers(
-        alloc,
-        FIRST_KIND,
-        own.kinds().len(),
-        signature.kinds().len(),
-    )?;
-    let hidden_constants = hidden_numbers(
-        alloc,
-        FIRST_CONSTANT,
-        own.constants().len(),
-        signature.constants().len(),
-    )?;
+    let hidden_kinds = kinds_behind(alloc, own.kinds().len(), signature.kinds())?;
+    let hidden_constants = constants_behind(alloc, own.constants().len(), signature.constants())?;
     Ok(Module {
         name,
         signature,

@@ -7,6 +7,8 @@ use Rattle.lp_module.specs.declared.fault.ModuleFault.TheVariants as fault
 use Rattle.lp_module.specs.Schemes.{declared_schemes}
 use Rattle.lp_module.specs.Sentences.{said}
 use Rattle.lp_module.specs.inner.Typed.{AreClosed, AreStanding, IsFormedIn, IsFirstUnformed}
+use Rattle.lp_module.specs.inner.Numbered.{AreNumberedKinds, AreNumberedConstants}
+use Rattle.lp_module.proofs.NumbersByPlace.{kinds_by_place, constants_by_place}
 use Rattle.lp_module.proofs.Typed.{sentences_later, standing, closed_count, closed_within, sentences_count, are_clauses}
 use Rattle.lp_module.proofs.Saying.{untyped_inside, unformed_inside}
 use Rattle.lp_module.proofs.meaning.elaborate.Goals as goal
@@ -100,3 +102,9 @@ returns-clause-count c =
 
 pub returns-clause-clauses : goal.returns-clause-clauses
 returns-clause-clauses c = closed_within c.closed_sentences.new.bank c.as_slice.result.now c.in_ok-clauses.clauses.items c.in_ok-clauses.ensures.closed
+
+pub kinds_behind-requires : goal.kinds_behind-requires
+kinds_behind-requires c = subst AreNumberedKinds (sym c.kinds-2.ensures) (kinds_by_place 8 c.in-Ok.signature.kinds.items _ c.in-Ok.ensures.seen.kinds)
+
+pub constants_behind-requires : goal.constants_behind-requires
+constants_behind-requires c = subst AreNumberedConstants (sym c.constants-2.ensures) (constants_by_place 32 c.in-Ok.signature.constants.items _ c.in-Ok.ensures.seen.constants)
