@@ -94,7 +94,7 @@ parts_left r head o q old new t p h k =
     let m : tasks_left us ≡ tasks_left old + 1 = weight_append 18446744073709551616 old (Task.Apply p.0 ∷ []) in
     let n : room_behind 18446744073709551616 us ≡ room - 1 = room_append 18446744073709551616 old (Task.Apply p.0 ∷ []) in
     let g : tasks_left new ≡ tasks_left us + length ids * w =
-        ap tasks_left p.5 ∙ weight_append 18446744073709551616 us (reverse (visit_tasks o ids)) ∙ ap (λ x. tasks_left us + tasks_weight x (reverse (visit_tasks o ids))) n ∙ ap (λ x. tasks_left us + x) (weight_visits (room - 1) o ids) in
+    ap tasks_left p.5 ∙ weight_append 18446744073709551616 us (reverse (visit_tasks o ids)) ∙ ap (λ x. tasks_left us + tasks_weight x (reverse (visit_tasks o ids))) n ∙ ap (λ x. tasks_left us + x) (weight_visits (room - 1) o ids) in
     let l : length ids * w ≤ 18446744073709551616 * w = mul-le-mul_right w (omega (arith, k)) in
     omega (arith, a, b, s, m, g, l)
 
