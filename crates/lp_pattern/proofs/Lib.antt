@@ -67,3 +67,5 @@ mod Grounds
 mod Enough
 mod Falls
 mod TasksFall
+mod Making
+mod Becoming

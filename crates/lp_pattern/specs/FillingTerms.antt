@@ -1,5 +1,5 @@
 -- Terms with all bindings put in.
-use Rattle.std.specs.Prelude.{◌≡◌, ℕ, ◌<◌, List, map, length, Some, nat_eq}
+use Rattle.std.specs.Prelude.{◌≡◌, ℕ, ◌<◌, List, map, length, All, Some, nat_eq}
 use Rattle.indexmap.specs.IndexMap.{get}
 use Rattle.lp_calculus.specs.Term.{atom, abs, apply, constant, param}
 use Rattle.lp_term.specs.Nodes.{Nodes, tree, type_tree}
@@ -40,3 +40,12 @@ HasShape b s i (Shape.Application head arguments) = tree b i ≡ apply (tree b h
 pub record IsMade (b d : Nodes) (c : Closing) (i : ℕ) (t : TermId) : Type 0 where
   pub within : t.0 < length d.terms
   pub is : tree d t.0 ≡ closed c (tree b i)
+
+-- what has to be done with a node is done with terms of the bank
+abbrev pub AreIn : Nodes → Shape → Type 0
+AreIn b Shape.Leaf = Unit {0}
+AreIn b (Shape.Bound v) = v.0 < length b.terms
+AreIn b (Shape.Typed n types) = Unit {0}
+AreIn b (Shape.Parameter n of) = Unit {0}
+AreIn b (Shape.Abstraction body) = body.0 < length b.terms
+AreIn b (Shape.Application head arguments) = (head.0 < length b.terms) × All (λ t. t.0 < length b.terms) arguments.items

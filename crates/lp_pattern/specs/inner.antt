@@ -1,2 +1,3 @@
 -- What only loops keep.
 pub mod Falling
+pub mod Making

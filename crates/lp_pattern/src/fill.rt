@@ -1,11 +1,12 @@
 // Terms with all bindings put in.
-ghost use Rattle.std.specs.Prelude.{◌≡◌, ◌<◌, ℕ, length, map, IfOk, OnOk, IfSome, Some, nat_eq, if◌then◌else◌};
+ghost use Rattle.std.specs.Prelude.{◌≡◌, ◌≢◌, ◌<◌, ◌^◌, true, false, ◌∷◌, ◌++◌, ℕ, [], length, map, All, IfOk, OnOk, IfSome, None, Some, nat_eq, if◌then◌else◌};
 ghost use Rattle.indexmap.specs.IndexMap.{get};
 ghost use Rattle.lp_calculus.specs.Term.{abs, apply, atom, constant, param};
 ghost use Rattle.lp_term.specs.Nodes.{Extends, Nodes, tree, type_tree};
 ghost use Rattle.lp_term.specs.Within.{AreTypesOf};
 ghost use Rattle.lp_model.specs.Pair.{Closing, closed};
-ghost use Rattle.lp_pattern.specs.FillingTerms.{IsFilledTerm, AreAllFilled, TermsBecome, HasShape, IsMade};
+ghost use Rattle.lp_pattern.specs.FillingTerms.{IsFilledTerm, AreAllFilled, TermsBecome, HasShape, AreIn, IsMade};
+ghost use Rattle.lp_pattern.specs.inner.Making.{IsFurther, unmade, term_made, terms_left};
 ghost use Rattle.lp_pattern.specs.Stripping.{IsShut};
 ghost use Rattle.lp_pattern.specs.Under.{IsReading};
 
@@ -44,9 +45,17 @@ impl TermsFilled {
     fn note(&mut self, id: TermId, made: TermId) -> Result<(), Memory>
         ensures types { self.new.types ≡ self.old.types }
         ensures terms { OnOk result ((i : ℕ) → get nat_eq self.new.terms i ≡ (if nat_eq id.0 i then Some made else get nat_eq self.old.terms i)) }
+        ensures added { OnOk result (get nat_eq self.old.terms id.0 ≡ None → self.new.terms.entries ≡ self.old.terms.entries ++ (id.0, made) ∷ []) }
     {
         self.terms.insert(id.0, made)?;
         Ok(())
+    }
+
+    fn count(&self) -> usize
+        ensures count { result ≡ length self.now.terms.entries }
+        ensures few { length self.now.terms.entries < 2 ^ 64 }
+    {
+        self.terms.len()
     }
 }
 
@@ -64,7 +73,8 @@ enum Shape {
 
 // A value outside the bank is none.
 fn shape_of(alloc: Global, bank: &Bank, bindings: &Bindings, id: TermId) -> Result<Shape, Memory>
-    ensures { IfOk result (HasShape bank.now bindings.now id.0) }
+    ensures shape { IfOk result (HasShape bank.now bindings.now id.0) }
+    ensures within { IfOk result (AreIn bank.now) }
 {
     match bank.term_node(id) {
         TermNode::Logic { id, level: _ } => match bindings.value(id) {
@@ -100,18 +110,19 @@ fn known_parts(
     parts: &[TermId],
     left: &mut Vec<TermId>,
 ) -> Result<Option<Vec<TermId>>, Memory>
-    ensures { IfOk result (λ known. IfSome known (λ made. (b : Nodes) → (c : Closing) → AreAllFilled b c done.now → TermsBecome b c parts.now made.items)) }
+    ensures made { IfOk result (λ known. IfSome known (λ made. (b : Nodes) → (c : Closing) → AreAllFilled b c done.now → TermsBecome b c parts.now made.items)) }
+    ensures within { OnOk result ((n : ℕ) → All (λ t. t.0 < n) parts.now → All (λ t. t.0 < n) left.old.items → All (λ t. t.0 < n) left.new.items) }
+    ensures further { IfOk result (λ known. IsFurther known (unmade (term_made done.now) left.old.items) (unmade (term_made done.now) left.new.items)) }
 {
     let mut made = Vec::new(alloc);
     let mut is_whole = true;
     for part in parts.iter().copied() {
-        match done.at(part) {
-            Some(known) => made.push(known)?,
-            None => {
-                is_whole = false;
-                left.push(part)?;
-            }
-        }
+        let Some(known) = done.at(part) else {
+            is_whole = false;
+            left.push(part)?;
+            continue;
+        };
+        made.push(known)?;
     }
     if is_whole {
         return Ok(Some(made));
@@ -125,7 +136,9 @@ fn known_part(
     part: TermId,
     left: &mut Vec<TermId>,
 ) -> Result<Option<TermId>, Memory>
-    ensures { IfOk result (λ known. IfSome known (λ made. (b : Nodes) → (c : Closing) → AreAllFilled b c done.now → IsFilledTerm b c part.0 made.0)) }
+    ensures made { IfOk result (λ known. IfSome known (λ made. (b : Nodes) → (c : Closing) → AreAllFilled b c done.now → IsFilledTerm b c part.0 made.0)) }
+    ensures within { OnOk result ((n : ℕ) → part.0 < n → All (λ t. t.0 < n) left.old.items → All (λ t. t.0 < n) left.new.items) }
+    ensures further { IfOk result (λ known. IsFurther known (unmade (term_made done.now) left.old.items) (unmade (term_made done.now) left.new.items)) }
 {
     let Some(made) = done.at(part) else {
         left.push(part)?;
@@ -146,6 +159,7 @@ fn typed(
 ) -> Result<TermId, Memory>
     requires { id.0 < length bank.old.terms }
     ensures kept { Extends bank.old bank.new }
+    ensures terms { done.new.terms ≡ done.old.terms }
     ensures made { IfOk result (λ t. (c : Closing) → IsReading bank.old bindings.now c → IsShut c → AreAllFilled bank.old c done.old → AreTypesOf bank.old types.now →
         tree bank.old id.0 ≡ atom (constant number (map (λ t. type_tree bank.old t.0) types.now)) → AreAllFilled bank.new c done.new × IsMade bank.old bank.new c id.0 t) }
 {
@@ -172,6 +186,7 @@ fn parameter(
 ) -> Result<TermId, Memory>
     requires { id.0 < length bank.old.terms }
     ensures kept { Extends bank.old bank.new }
+    ensures terms { done.new.terms ≡ done.old.terms }
     ensures made { IfOk result (λ t. (c : Closing) → IsReading bank.old bindings.now c → IsShut c → AreAllFilled bank.old c done.old → of.0 < length bank.old.types →
         tree bank.old id.0 ≡ atom (param number (type_tree bank.old of.0)) → AreAllFilled bank.new c done.new × IsMade bank.old bank.new c id.0 t) }
 {
@@ -192,6 +207,8 @@ fn abstraction(
 ) -> Result<Option<TermId>, Memory>
     requires { id.0 < length bank.old.terms }
     ensures kept { Extends bank.old bank.new }
+    ensures within { OnOk result ((n : ℕ) → body.0 < n → All (λ t. t.0 < n) left.old.items → All (λ t. t.0 < n) left.new.items) }
+    ensures further { IfOk result (λ known. IsFurther known (unmade (term_made done.now) left.old.items) (unmade (term_made done.now) left.new.items)) }
     ensures made { IfOk result (λ known. IfSome known (λ t. (c : Closing) → IsShut c → AreAllFilled bank.old c done.now →
         tree bank.old id.0 ≡ abs (tree bank.old body.0) → IsMade bank.old bank.new c id.0 t)) }
 {
@@ -216,6 +233,8 @@ fn application(
 ) -> Result<Option<TermId>, Memory>
     requires { id.0 < length bank.old.terms }
     ensures kept { Extends bank.old bank.new }
+    ensures within { OnOk result ((n : ℕ) → head.0 < n → All (λ t. t.0 < n) arguments.now → All (λ t. t.0 < n) left.old.items → All (λ t. t.0 < n) left.new.items) }
+    ensures further { IfOk result (λ known. IsFurther known (unmade (term_made done.now) left.old.items) (unmade (term_made done.now) left.new.items)) }
     ensures made { IfOk result (λ known. IfSome known (λ t. (c : Closing) → AreAllFilled bank.old c done.now →
         tree bank.old id.0 ≡ apply (tree bank.old head.0) (map (λ t. tree bank.old t.0) arguments.now) → IsMade bank.old bank.new c id.0 t)) }
 {
@@ -244,6 +263,9 @@ fn made_of(
 ) -> Result<Option<TermId>, Memory>
     requires { id.0 < length bank.old.terms }
     ensures kept { Extends bank.old bank.new }
+    ensures terms { done.new.terms ≡ done.old.terms }
+    ensures within { OnOk result (All (λ t. t.0 < length bank.old.terms) left.old.items → All (λ t. t.0 < length bank.new.terms) left.new.items) }
+    ensures further { IfOk result (λ known. IsFurther known (unmade (term_made done.old) left.old.items) (unmade (term_made done.old) left.new.items)) }
     ensures filled { OnOk result ((c : Closing) → IsReading bank.old bindings.now c → IsShut c → AreAllFilled bank.old c done.old → AreAllFilled bank.new c done.new) }
     ensures made { IfOk result (λ known. IfSome known (λ t. (c : Closing) → IsReading bank.old bindings.now c → IsShut c → AreAllFilled bank.old c done.old → IsMade bank.old bank.new c id.0 t)) }
 {
@@ -265,6 +287,17 @@ fn made_of(
     }
 }
 
+// Whether the term has become something.
+fn is_known(done: &TermsFilled, id: TermId) -> bool
+    ensures known { result ≡ true → term_made done.now id ≢ None }
+    ensures new { result ≡ false → term_made done.now id ≡ None }
+{
+    match done.at(id) {
+        Some(_) => true,
+        None => false,
+    }
+}
+
 // Takes the term on top of the stack, which stays there while its parts are not known.
 fn step(
     alloc: Global,
@@ -274,18 +307,22 @@ fn step(
     id: TermId,
     left: &mut Vec<TermId>,
 ) -> Result<(), Memory>
+    requires top { id.0 < length bank.old.terms }
+    requires within { All (λ t. t.0 < length bank.old.terms) left.old.items }
     ensures kept { Extends bank.old bank.new }
+    ensures within { OnOk result (All (λ t. t.0 < length bank.new.terms) left.new.items) }
+    ensures falls { OnOk result (terms_left done.new left.new.items < terms_left done.old (left.old.items ++ id ∷ [])) }
     ensures filled { OnOk result ((c : Closing) → IsReading bank.old bindings.now c → IsShut c → AreAllFilled bank.old c done.old → AreAllFilled bank.new c done.new) }
 {
-    let top = bank.inside(id)?;
-    if done.at(top).is_some() {
+    if is_known(done, id) {
         return Ok(());
     }
-    left.push(top)?;
-    let Some(made) = made_of(alloc, bank, bindings, done, top, left)? else {
+    let _count = done.count();
+    left.push(id)?;
+    let Some(made) = made_of(alloc, bank, bindings, done, id, left)? else {
         return Ok(());
     };
-    done.note(top, made)
+    done.note(id, made)
 }
 
 /// The term with all bindings put in. Shared parts are gone through once.
@@ -302,7 +339,7 @@ pub fn filled(
     let root = bank.inside(term)?;
     let mut done = TermsFilled::new(alloc);
     let mut left = Vec::new(alloc);
-    'terms: for _ in 0..u64::MAX {
+    'terms: loop {
         let Some(top) = left.pop() else {
             let Some(made) = made_of(alloc, bank, bindings, &mut done, root, &mut left)? else {
                 continue;
@@ -312,5 +349,4 @@ pub fn filled(
         };
         step(alloc, bank, bindings, &mut done, top, &mut left)?;
     }
-    Err(Memory)
 }

@@ -21,6 +21,7 @@ loop-of-preserved c =
       λ d R k F.
           one_type_more a b c.filled_in.new.bank c.args.bindings.now d c.loop-of.yielded c.loop-of.made.items c.push.new.self.items c.in-Some.of c.in_ok-new.new c.loop-of.done c.filled_in.new.done c.loop-of.invariant.0
           c.in_ok-new.ensures.kept (types_kept a b c.args.bindings.now d.types c.loop-of.invariant.0 R.types) k (λ j. c.loop-of.invariant.1 d R j F) c.in_ok-push.ensures.items (c.in_ok-new.ensures.filled d.types),
+      c.loop-of.invariant.2,
     )
 
 pub returns-then-eq-clause-made : goal.returns-then-eq-clause-made

@@ -11,4 +11,5 @@ abbrev pub invariant-loop-of : goal.invariant-loop-of
 invariant-loop-of l =
     Extends l.fn.bank l.bank ×
     ((c : Closing) → IsReading l.fn.bank l.bindings c → AreTypesOf l.fn.bank l.yielded → AreAllFilled l.fn.bank c l.fn.done →
-    AreAllFilled l.bank c l.done × AreTypesOf l.bank l.made.items × (map (λ t. type_tree l.bank t.0) l.made.items ≡ map (λ t. instance c.types (type_tree l.fn.bank t.0)) l.yielded))
+    AreAllFilled l.bank c l.done × AreTypesOf l.bank l.made.items × (map (λ t. type_tree l.bank t.0) l.made.items ≡ map (λ t. instance c.types (type_tree l.fn.bank t.0)) l.yielded)) ×
+    (l.done.terms ≡ l.fn.done.terms)

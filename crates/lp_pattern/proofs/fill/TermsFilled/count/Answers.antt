@@ -1,0 +1,5 @@
+use Rattle.std.proofs.Common.{arith}
+use Rattle.lp_pattern.proofs.fill.TermsFilled.count.Goals as goal
+
+pub returns-clause-few : goal.returns-clause-few
+returns-clause-few c = omega (arith, c.len.ensures.len, c.len.ensures.small)
