@@ -2,9 +2,10 @@
 use Rattle.std.proofs.Common.{◌≡◌, ℕ, zero, suc, ◌+◌, ◌<◌, ◌≤◌, List, [], ◌∷◌, ◌++◌, map, length, cond, inl, inr, refl, sym, ap, ◌∙◌, subst, arith, Bool, true, false, true≢false, Option, None, Some}
 use Rattle.std.specs.Prelude.{◌⊎◌, All, filter, slice_get}
 use Rattle.std.proofs.lemmas.Bool.Decides.{nat_tests}
-use Rattle.std.proofs.lemmas.List.{length-map, map-append}
+use Rattle.std.proofs.lemmas.List.{length-map}
+use Rattle.std.proofs.lemmas.Option.{slice_get_within}
 use Rattle.std.proofs.lemmas.List.Elements.{All-weaker}
-use Rattle.lp_lemmas.proofs.Lists.{get_append, get_map}
+use Rattle.lp_lemmas.proofs.Lists.{get_append}
 use Rattle.lp_lemmas.proofs.Numbers.{nat_eq_self}
 use Rattle.lp_calculus.specs.Instance.{instance_term}
 use Rattle.lp_calculus.specs.Spine.{head_of}
@@ -28,7 +29,7 @@ use Rattle.lp_plain.specs.declared.openness.Standing.{Standing}
 use Rattle.lp_plain.specs.declared.table.Rule.{Rule}
 use Rattle.lp_plain.specs.declared.types.Renewal.{Renewal}
 use Rattle.lp_plain.specs.Assuming.{Lists, lists_of, ListsGrow, clause_in, clauses_in, written_at, head_at, head_term, is_head, is_for, IsAssumed, AreAssumed, links, AreUnder, HasAssumed, HasWritten, no_standing, a_standing, IsNumberIn, IsPlaceAt, IsLaterAround, AssumesMore, KeepsAssumed, IsOneMore, IsTreeOf}
-use Rattle.lp_plain.specs.Candidates.{IsChain}
+use Rattle.lp_plain.specs.Candidates.{IsChain, back}
 use Rattle.lp_plain.specs.Entries.{Around, AreEntries, no_frame, a_frame, HasValues, KeepsGoals, placed}
 use Rattle.lp_plain.specs.Instances.{AreValues}
 use Rattle.lp_plain.specs.Keeping.{KeepsCourse}
@@ -41,6 +42,7 @@ use Rattle.lp_plain.proofs.Growing.{all_taken, scope_later}
 use Rattle.lp_plain.proofs.Later.{rule_later}
 use Rattle.lp_plain.proofs.LaterIndex.{chain_longer}
 use Rattle.lp_plain.proofs.Opening.{same_stands}
+use Rattle.lp_plain.proofs.OrderedLinks.{back_some, kept_length, kept_longer, link_at}
 use Rattle.lp_plain.proofs.NewestTrees.{finds_on}
 use Rattle.lp_plain.proofs.Within.{all_at, longer_list}
 
@@ -77,7 +79,7 @@ module _ (k l : Lists) (i : IsTableIn (length k.bank.terms) k.table) (v : AreVal
   pub links_on : (o : Option ℕ) (ns : List ℕ) → IsChain (links k.assumptions) o ns → IsChain (links l.assumptions) o ns
   links_on o ns h =
       subst (λ xs. IsChain (links xs) o ns) (sym g.assumptions.1)
-      (subst (λ xs. IsChain xs o ns) (sym (map-append (λ (x : Assumption). x.older) k.assumptions g.assumptions.0)) (chain_longer (links k.assumptions) (links g.assumptions.0) o ns h))
+      (let e = kept_longer back (λ (x : Assumption). x.older) k.assumptions g.assumptions.0 in subst (λ xs. IsChain xs o ns) (sym e.1) (chain_longer (links k.assumptions) e.0 o ns h))
 
   pub has_on : (o : Option ℕ) (cs : List Clause) → HasAssumed k o cs → HasAssumed l o cs
   has_on o cs h = (
@@ -131,6 +133,14 @@ module _ (l : Lists) (a d : Around) (e : IsLaterAround (length l.newest) (length
   entries_on b t s {fs} h (a_frame j f gs rest q g k w z) =
       a_frame j f gs rest q g k (entries_on b t s (all_taken (λ (f : Frame). IsPlaceAt l a f.place) j fs h) w)
       (z ∙ ap (λ x. x ++ rest) (placed_same f.place gs (all_at (λ (f : Frame). IsPlaceAt l a f.place) fs j f g h)))
+
+-- the newest assumption of a chain is one of the list
+newest_back : (xs : List Assumption) (o : Option ℕ) (ks : List ℕ) → IsChain (links xs) o ks → back (length xs) o ≡ o
+newest_back xs o [] c = subst (λ z. back (length xs) z ≡ z) (sym c) refl
+newest_back xs o (k ∷ ks) c =
+    let l = slice_get_within (links xs) k c.0 c.2 in
+    let e = kept_length back (map (λ (x : Assumption). x.older) xs) ∙ length-map xs (λ (x : Assumption). x.older) in
+    subst (λ z. back (length xs) z ≡ z) (sym c.1) (back_some (length xs) k (omega (arith, l, e)))
 
 -- heads
 
@@ -213,7 +223,8 @@ module _ (m n : Machine) (rule : ℕ) (values : Values) (before : Option ℕ) (h
             chain = (
               one.older,
               refl,
-              get_map (λ (x : Assumption). x.older) n.assumptions.items (length m.assumptions.items) (record { rule = rule; values = values; older = one.older }) one.assumption,
+              link_at back (λ (x : Assumption). x.older) n.assumptions.items (length m.assumptions.items) (record { rule = rule; values = values; older = one.older }) one.assumption ∙
+                  ap Some (subst (λ z. back (length m.assumptions.items) z ≡ z) same (newest_back m.assumptions.items o.newest o.numbers o.chain)),
               subst (λ x. IsChain (links n.assumptions.items) x o.numbers) same (links_on (lists_of m) (lists_of n) i.table i.values g o.newest o.numbers o.chain),
             );
             clauses = subst (λ t. AreAssumed (lists_of n) (length m.assumptions.items ∷ o.numbers) (cond t (c ∷ filter (is_for h) cs) (filter (is_for h) cs))) (sym (for_it h true z))

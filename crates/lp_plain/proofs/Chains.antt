@@ -1,14 +1,14 @@
 -- A chain that ends passes no number twice, so it is no longer than the list of its links.
-use Rattle.std.proofs.Common.{◌≡◌, ℕ, zero, suc, ◌+◌, ◌<◌, ◌≤◌, List, [], ◌∷◌, length, get_or, Option, Some, None, refl, sym, ap, ◌∙◌, subst, arith}
-use Rattle.std.specs.Prelude.{slice_get, filter, option_map}
+use Rattle.std.proofs.Common.{◌≡◌, ℕ, zero, suc, ◌+◌, ◌<◌, ◌≤◌, List, [], ◌∷◌, map, length, get_or, Option, Some, None, refl, sym, ap, ◌∙◌, subst, arith}
+use Rattle.std.specs.Prelude.{slice_get, filter}
 use Rattle.std.proofs.lemmas.List.{length-map}
-use Rattle.std.proofs.lemmas.Option.{slice_get-map}
 use Rattle.indexmap.proofs.IndexTableLemmas.Probe.{pigeonhole}
 use Rattle.lp_term.specs.Nodes.{Nodes}
 use Rattle.lp_plain.specs.declared.head.Key.{Key}
 use Rattle.lp_plain.specs.declared.table.Rule.{Rule}
-use Rattle.lp_plain.specs.Candidates.{IsChain, IsLeft, nexts, passes}
+use Rattle.lp_plain.specs.Candidates.{IsChain, IsLeft, ahead, nexts, passes}
 use Rattle.lp_plain.proofs.Indexes.{left_none}
+use Rattle.lp_plain.proofs.OrderedLinks.{kept_length, link_at}
 
 -- from one place on there is one chain
 one_length : (links : List (Option ℕ)) (o : Option ℕ) (ks js : List ℕ) → IsChain links o ks → IsChain links o js → length ks ≡ length js
@@ -51,13 +51,13 @@ no_longer links o ks c = pigeonhole (length ks) (length links) (λ i. get_or ks 
     omega (arith, same, x, y))
 
 -- a clause of the chain is passed
-pub one_passed : (rules : List Rule) (o : Option ℕ) (i : ℕ) (r : Rule) (ks js : List ℕ) → o ≡ Some i → slice_get rules i ≡ Some r → IsChain (nexts rules) o ks → IsChain (nexts rules) r.next js → length ks ≡ suc (length js)
+pub one_passed : (rules : List Rule) (o : Option ℕ) (i : ℕ) (r : Rule) (ks js : List ℕ) → o ≡ Some i → slice_get rules i ≡ Some r → IsChain (nexts rules) o ks → IsChain (nexts rules) (ahead i r.next) js → length ks ≡ suc (length js)
 one_passed rules o i r ks js e s c d =
-    one_length (nexts rules) o ks (i ∷ js) c (r.next, e, slice_get-map (λ (x : Rule). x.next) rules i ∙ ap (option_map (λ (x : Rule). x.next)) s, d)
+    one_length (nexts rules) o ks (i ∷ js) c (ahead i r.next, e, link_at ahead (λ (x : Rule). x.next) rules i r s, d)
 
 -- all were passed
 pub all_passed : (b : Nodes) (rules : List Rule) (k : Option Key) (from o : Option ℕ) (js ks : List ℕ) (passed : ℕ) → IsChain (nexts rules) from js → IsChain (nexts rules) o ks → length ks + passed ≡ length js → length rules ≤ passed →
     filter (passes b rules k) js ≡ filter (passes b rules k) ks → IsLeft b rules k None (filter (passes b rules k) js)
 all_passed b rules k from o js [] passed c d n l f = left_none b rules k o js [] d d f
 all_passed b rules k from o js (i ∷ ks) passed c d n l f =
-    absurd (let x = no_longer (nexts rules) from js c in let y = length-map rules (λ (r : Rule). r.next) in omega (arith, x, y, n, l))
+    absurd (let x = no_longer (nexts rules) from js c in let y = kept_length ahead (map (λ (r : Rule). r.next) rules) ∙ length-map rules (λ (r : Rule). r.next) in omega (arith, x, y, n, l))

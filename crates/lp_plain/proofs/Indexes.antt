@@ -3,8 +3,8 @@ use Rattle.std.proofs.Common.{◌≡◌, ℕ, zero, suc, ◌-◌, ◌<◌, ◌�
 use Rattle.std.specs.Prelude.{All, filter, slice_get, slice_set, Bool, true, false, nat_eq, ◌⊎◌, option_map}
 use Rattle.std.proofs.lemmas.Bool.{eqb-true}
 use Rattle.std.proofs.lemmas.List.{length-map}
-use Rattle.std.proofs.lemmas.Option.{slice_get-map}
 use Rattle.lp_calculus.specs.Term.{Term, atom, constant, text}
+use Rattle.lp_plain.proofs.OrderedLinks.{ahead_some, kept_at, no_link, read_link}
 use Rattle.lp_plain.proofs.Within.{all_at}
 use Rattle.lp_term.specs.Node.{TermBelow}
 use Rattle.lp_term.specs.Nodes.{Nodes, tree, node_tree}
@@ -17,7 +17,8 @@ use Rattle.lp_plain.specs.declared.head.Key.{Key}
 use Rattle.lp_plain.specs.declared.frame.Assumption.{Assumption}
 use Rattle.lp_plain.specs.declared.candidates.Candidate.{Candidate}
 use Rattle.lp_plain.specs.declared.candidates.Candidate.TheVariants as candidate
-use Rattle.lp_plain.specs.Candidates.{AreInOrder, IsChain, nexts, constant_of, constant_at, is_number, is_of, numbers_from, numbers_in, numbers, IsIndex, unlinked, set_next, AreFrom, IsLinked, passes, is_text_of, same_texts, meets, meets_at, IsLeft, in_turn, AreLeft}
+use Rattle.lp_plain.specs.Assuming.{links}
+use Rattle.lp_plain.specs.Candidates.{AreInOrder, IsChain, ahead, back, nexts, constant_of, constant_at, is_number, is_of, numbers_from, numbers_in, numbers, IsIndex, unlinked, set_next, AreFrom, IsLinked, passes, is_text_of, same_texts, meets, meets_at, IsLeft, in_turn, AreLeft}
 
 -- one link is set
 
@@ -33,17 +34,32 @@ constants_stay b (r ∷ rs) zero (suc k) o = refl
 constants_stay b (r ∷ rs) (suc i) zero o = refl
 constants_stay b (r ∷ rs) (suc i) (suc k) o = constants_stay b rs i k o
 
-link_set : (rules : List Rule) (i : ℕ) (o : Option ℕ) → i < length rules → slice_get (nexts (set_next rules i o)) i ≡ Some o
-link_set [] i o h = absurd (omega arith)
-link_set (r ∷ rs) zero o h = refl
-link_set (r ∷ rs) (suc i) o h = let l : i < length rs = omega arith in link_set rs i o l
+abbrev all_nexts : List Rule → List (Option ℕ)
+all_nexts rules = map (λ (r : Rule). r.next) rules
+
+next_set : (rules : List Rule) (i : ℕ) (o : Option ℕ) → i < length rules → slice_get (all_nexts (set_next rules i o)) i ≡ Some o
+next_set [] i o h = absurd (omega arith)
+next_set (r ∷ rs) zero o h = refl
+next_set (r ∷ rs) (suc i) o h = let l : i < length rs = omega arith in next_set rs i o l
+
+nexts_stay : (rules : List Rule) (i k : ℕ) (o : Option ℕ) → i < k → slice_get (all_nexts (set_next rules i o)) k ≡ slice_get (all_nexts rules) k
+nexts_stay [] i k o h = refl
+nexts_stay (r ∷ rs) zero zero o h = absurd (omega arith)
+nexts_stay (r ∷ rs) zero (suc k) o h = refl
+nexts_stay (r ∷ rs) (suc i) zero o h = absurd (omega arith)
+nexts_stay (r ∷ rs) (suc i) (suc k) o h = let l : i < k = omega arith in nexts_stay rs i k o l
+
+link_set : (rules : List Rule) (i : ℕ) (o : Option ℕ) → i < length rules → slice_get (nexts (set_next rules i o)) i ≡ Some (ahead i o)
+link_set rules i o h = kept_at ahead (all_nexts (set_next rules i o)) i ∙ ap (option_map (ahead i)) (next_set rules i o h)
 
 links_stay : (rules : List Rule) (i k : ℕ) (o : Option ℕ) → i < k → slice_get (nexts (set_next rules i o)) k ≡ slice_get (nexts rules) k
-links_stay [] i k o h = refl
-links_stay (r ∷ rs) zero zero o h = absurd (omega arith)
-links_stay (r ∷ rs) zero (suc k) o h = refl
-links_stay (r ∷ rs) (suc i) zero o h = absurd (omega arith)
-links_stay (r ∷ rs) (suc i) (suc k) o h = let l : i < k = omega arith in links_stay rs i k o l
+links_stay rules i k o h =
+    kept_at ahead (all_nexts (set_next rules i o)) k ∙ ap (option_map (ahead k)) (nexts_stay rules i k o h) ∙ sym (kept_at ahead (all_nexts rules) k)
+
+-- the first of a chain of greater numbers is one
+ahead_first : (k : ℕ) (ls : List (Option ℕ)) (o : Option ℕ) (ks : List ℕ) → AreFrom (suc k) ks → IsChain ls o ks → ahead k o ≡ o
+ahead_first k ls o [] h c = subst (λ z. ahead k z ≡ z) (sym c) refl
+ahead_first k ls o (j ∷ ks) h c = let m = h.0 in let l : k < j = omega (arith, m) in subst (λ z. ahead k z ≡ z) (sym c.1) (ahead_some k j l)
 
 pub filter_same : (p q : ℕ → Bool) (ks : List ℕ) → ((k : ℕ) → p k ≡ q k) → filter p ks ≡ filter q ks
 filter_same p q [] e = refl
@@ -105,12 +121,13 @@ one_linked b old new first later k d e w n u = record {
         go : (t : Bool) → nat_eq d c ≡ t → IsChain (nexts rules) (later c) (cond (nat_eq d c) (k ∷ filter (is_of b rules c) ks) (filter (is_of b rules c) ks))
         go true q =
             let same : d ≡ c = eqb-true d c q in
+            let rest = before ks c h x in
+            let greater = ahead_first k (nexts rules) (first c) (filter (is_of b rules c) ks) (from_filter (suc k) (is_of b rules c) ks h) rest in
             subst (λ t. IsChain (nexts rules) (later c) (cond t (k ∷ filter (is_of b rules c) ks) (filter (is_of b rules c) ks))) (sym q) (
-              first d,
+              first c,
               u c ∙ ap (λ t. cond t (Some k) (first c)) q,
-              link_set old k (first d) w,
-              subst
-                  (λ z. IsChain (nexts rules) z (filter (is_of b rules c) ks)) (sym (ap first same)) (before ks c h x),
+              link_set old k (first d) w ∙ ap (λ z. Some (ahead k (first z))) same ∙ ap Some greater,
+              rest,
             )
         go false q =
             subst (λ t. IsChain (nexts rules) (later c) (cond t (k ∷ filter (is_of b rules c) ks) (filter (is_of b rules c) ks))) (sym q)
@@ -210,9 +227,6 @@ no_spans (s ∷ ss) (suc n) h = let l : length ss ≤ n = omega arith in no_span
 
 -- a chain is followed
 
-read_link : {X : Type 0} (g : X → Option ℕ) (xs : List X) (k : ℕ) (x : X) (next : Option ℕ) → slice_get xs k ≡ Some x → slice_get (map g xs) k ≡ Some next → g x ≡ next
-read_link g xs k x next e h = let q : Some (g x) ≡ Some next = sym (ap (option_map g) e) ∙ sym (slice_get-map g xs k) ∙ h in cc
-
 pub left_none : (b : Nodes) (rules : List Rule) (k : Option Key) (o : Option ℕ) (ks js : List ℕ) → o ≡ None → IsChain (nexts rules) o js → filter
     (passes b rules k) ks ≡ filter (passes b rules k) js → IsLeft b rules k None (filter (passes b rules k) ks)
 left_none b rules k o ks js e c f = (js, subst (λ z. IsChain (nexts rules) z js) e c, f, tt)
@@ -224,21 +238,21 @@ left_some b rules k o ks js i r e s m c f = (js, subst (λ z. IsChain (nexts rul
 
 pub left_further : (b : Nodes) (rules : List Rule) (k : Option Key) (o : Option ℕ) (ks js : List ℕ) (i : ℕ) (r : Rule) → o ≡ Some i → slice_get rules
     i ≡ Some r → false ≡ meets b r.key k → IsChain (nexts rules) o js → filter (passes b rules k) ks ≡ filter (passes b rules k) js
-    → (rest : List ℕ) × IsChain (nexts rules) r.next rest × (filter (passes b rules k) ks ≡ filter (passes b rules k) rest)
+    → (rest : List ℕ) × IsChain (nexts rules) (ahead i r.next) rest × (filter (passes b rules k) ks ≡ filter (passes b rules k) rest)
 left_further b rules k o ks [] i r e s m c f = let a : None ≡ Some i = sym c ∙ e in absurd (cc)
 left_further b rules k o ks (j ∷ js) i r e s m c f =
     let a : Some j ≡ Some i = sym c.1 ∙ e in
     let same : j ≡ i = cc in
     let here : slice_get rules j ≡ Some r = ap (slice_get rules) same ∙ s in (
       js,
-      subst (λ z. IsChain (nexts rules) z js) (sym (read_link (λ (x : Rule). x.next) rules j r c.0 here c.2)) c.3,
+      subst (λ z. IsChain (nexts rules) z js) (sym (read_link ahead (λ (x : Rule). x.next) rules j r c.0 here c.2) ∙ ap (λ z. ahead z r.next) same) c.3,
       f ∙ ap
           (λ t. cond t (j ∷ filter (passes b rules k) js) (filter (passes b rules k) js)) (ap (meets_at b k) here ∙ sym m),
     )
 
-chain_none : (links : List (Option ℕ)) (ks : List ℕ) → IsChain links None ks → ks ≡ []
-chain_none links [] c = refl
-chain_none links (k ∷ ks) c = let a = c.1 in absurd (cc)
+chain_none : (ls : List (Option ℕ)) (ks : List ℕ) → IsChain ls None ks → ks ≡ []
+chain_none ls [] c = refl
+chain_none ls (k ∷ ks) c = let a = c.1 in absurd (cc)
 
 pub program_some : (b : Nodes) (rules : List Rule) (older : List (Option ℕ)) (first found : Option ℕ) (k : Option Key) (i : ℕ) (ks : List ℕ) → found ≡
     Some i → IsLeft b rules k found (filter (passes b rules k) ks) → AreLeft b rules older first k (Some (candidate.Program i))
@@ -263,29 +277,29 @@ assumed_none b rules older first o k found ns ks e c l = subst (λ z. AreLeft b 
 -- the candidate behind an assumed clause
 behind_assumed : (b : Nodes) (rules : List Rule) (assumptions : List Assumption) (first : Option ℕ) (k : Option Key) (found : Option Candidate)
     (i : ℕ) (a : Assumption) (left : List Candidate) → slice_get assumptions i ≡ Some a
-    → ((ns ks : List ℕ) → IsChain (map (λ (x : Assumption). x.older) assumptions) a.older ns → IsChain (nexts rules) first ks → AreLeft b rules
-    (map (λ (x : Assumption). x.older) assumptions) first k found (in_turn b rules k ns ks))
-    → AreLeft b rules (map (λ (x : Assumption). x.older) assumptions) first k (Some (candidate.Assumed i)) left → (rest : List Candidate) ×
-    (left ≡ candidate.Assumed i ∷ rest) × AreLeft b rules (map (λ (x : Assumption). x.older) assumptions) first k found rest
+    → ((ns ks : List ℕ) → IsChain (links assumptions) (back i a.older) ns → IsChain (nexts rules) first ks → AreLeft b rules
+    (links assumptions) first k found (in_turn b rules k ns ks))
+    → AreLeft b rules (links assumptions) first k (Some (candidate.Assumed i)) left → (rest : List Candidate) ×
+    (left ≡ candidate.Assumed i ∷ rest) × AreLeft b rules (links assumptions) first k found rest
 behind_assumed b rules assumptions first k found i a left s f ([], ks, c, d, e) = absurd (cc)
 behind_assumed b rules assumptions first k found i a left s f (j ∷ ns, ks, c, d, e) =
     let q = c.1 in
     let same : j ≡ i = cc in
     let here : slice_get assumptions j ≡ Some a = ap (slice_get assumptions) same ∙ s in
-    let next : a.older ≡ c.0 = read_link (λ (x : Assumption). x.older) assumptions j a c.0 here c.2 in
-    (in_turn b rules k ns ks, e ∙ ap (λ z. candidate.Assumed z ∷ in_turn b rules k ns ks) same, f ns ks (subst (λ z. IsChain (map (λ (x : Assumption). x.older) assumptions) z ns) (sym next) c.3) d)
+    let next : back i a.older ≡ c.0 = sym (ap (λ z. back z a.older) same) ∙ read_link back (λ (x : Assumption). x.older) assumptions j a c.0 here c.2 in
+    (in_turn b rules k ns ks, e ∙ ap (λ z. candidate.Assumed z ∷ in_turn b rules k ns ks) same, f ns ks (subst (λ z. IsChain (links assumptions) z ns) (sym next) c.3) d)
 
 -- the candidate behind a program clause
 behind_program : (b : Nodes) (rules : List Rule) (older : List (Option ℕ)) (first : Option ℕ) (k : Option Key) (found : Option Candidate) (i : ℕ)
     (r : Rule) (left : List Candidate) → slice_get rules i ≡ Some r
-    → ((ks : List ℕ) → IsChain (nexts rules) r.next ks → AreLeft b rules older first k found (in_turn b rules k [] ks))
+    → ((ks : List ℕ) → IsChain (nexts rules) (ahead i r.next) ks → AreLeft b rules older first k found (in_turn b rules k [] ks))
     → AreLeft b rules older first k (Some (candidate.Program i)) left → (rest : List Candidate) × (left ≡ candidate.Program i ∷ rest) × AreLeft b rules older first k found rest
 behind_program b rules older first k found i r left s f (program, ([], c, d, p), e) = absurd (cc)
 behind_program b rules older first k found i r left s f (program, (j ∷ ks, c, d, p), e) =
     let q = c.1 in
     let same : j ≡ i = cc in
     let here : slice_get rules j ≡ Some r = ap (slice_get rules) same ∙ s in
-    let next : r.next ≡ c.0 = read_link (λ (x : Rule). x.next) rules j r c.0 here c.2 in
+    let next : ahead i r.next ≡ c.0 = sym (ap (λ z. ahead z r.next) same) ∙ read_link ahead (λ (x : Rule). x.next) rules j r c.0 here c.2 in
     let one : program ≡ j ∷ filter (passes b rules k) ks = d ∙ ap (λ t. cond t (j ∷ filter (passes b rules k) ks) (filter (passes b rules k) ks)) (ap (passes b rules k) same ∙ p) in
     (in_turn b rules k [] ks, e ∙ ap (map (λ x. candidate.Program x)) one ∙ ap (λ z. candidate.Program z ∷ in_turn b rules k [] ks) same, f ks (subst (λ z. IsChain (nexts rules) z ks) (sym next) c.3))
 
@@ -301,17 +315,17 @@ other_text b i j n m x w t h = no_text_in (tree b i) (tree b j) (λ q. h (sym (k
 
 pub after_assumed : (b : Nodes) (rules : List Rule) (assumptions : List Assumption) (first : Option ℕ) (k : Option Key) (found : Option Candidate)
     (which : Candidate) (i : ℕ) (a : Assumption) (left : List Candidate) → which ≡ candidate.Assumed i → slice_get assumptions i ≡ Some a
-    → ((ns ks : List ℕ) → IsChain (map (λ (x : Assumption). x.older) assumptions) a.older ns → IsChain (nexts rules) first ks → AreLeft b rules
-    (map (λ (x : Assumption). x.older) assumptions) first k found (in_turn b rules k ns ks))
-    → AreLeft b rules (map (λ (x : Assumption). x.older) assumptions) first k (Some which) left → (rest : List Candidate) × (left ≡ which ∷ rest) ×
-    AreLeft b rules (map (λ (x : Assumption). x.older) assumptions) first k found rest
+    → ((ns ks : List ℕ) → IsChain (links assumptions) (back i a.older) ns → IsChain (nexts rules) first ks → AreLeft b rules
+    (links assumptions) first k found (in_turn b rules k ns ks))
+    → AreLeft b rules (links assumptions) first k (Some which) left → (rest : List Candidate) × (left ≡ which ∷ rest) ×
+    AreLeft b rules (links assumptions) first k found rest
 after_assumed b rules assumptions first k found which i a left e s f l =
-    let r = behind_assumed b rules assumptions first k found i a left s f (subst (λ z. AreLeft b rules (map (λ (x : Assumption). x.older) assumptions) first k (Some z) left) e l) in
+    let r = behind_assumed b rules assumptions first k found i a left s f (subst (λ z. AreLeft b rules (links assumptions) first k (Some z) left) e l) in
     (r.0, r.1 ∙ ap (λ z. z ∷ r.0) (sym e), r.2)
 
 pub after_program : (b : Nodes) (rules : List Rule) (older : List (Option ℕ)) (first : Option ℕ) (k : Option Key) (found : Option Candidate)
     (which : Candidate) (i : ℕ) (r : Rule) (left : List Candidate) → which ≡ candidate.Program i → slice_get rules i ≡ Some r
-    → ((ks : List ℕ) → IsChain (nexts rules) r.next ks → AreLeft b rules older first k found (in_turn b rules k [] ks))
+    → ((ks : List ℕ) → IsChain (nexts rules) (ahead i r.next) ks → AreLeft b rules older first k found (in_turn b rules k [] ks))
     → AreLeft b rules older first k (Some which) left → (rest : List Candidate) × (left ≡ which ∷ rest) × AreLeft b rules older first k found rest
 after_program b rules older first k found which i r left e s f l =
     let p = behind_program b rules older first k found i r left s f (subst (λ z. AreLeft b rules older first k (Some z) left) e l) in
@@ -323,9 +337,6 @@ same_rules old new e = sym (length-map new unlinked) ∙ ap length e ∙ length-
 
 -- a number that is none is in no chain
 
-outside : {X : Type 0} (g : X → Option ℕ) (xs : List X) (k : ℕ) (next : Option ℕ) → slice_get xs k ≡ None → slice_get (map g xs) k ≡ Some next → ⊥
-outside g xs k next e h = let q : None ≡ Some next = sym (ap (option_map g) e) ∙ sym (slice_get-map g xs k) ∙ h in absurd (cc)
-
 pub left_outside : (b : Nodes) (rules : List Rule) (k : Option Key) (o : Option ℕ) (ks js : List ℕ) (i : ℕ) → o ≡ Some i → slice_get rules i ≡ None →
     IsChain (nexts rules) o js → filter (passes b rules k) ks ≡ filter (passes b rules k) js →
     IsLeft b rules k None (filter (passes b rules k) ks)
@@ -333,19 +344,19 @@ left_outside b rules k o ks [] i e s c f = let a : None ≡ Some i = sym c ∙ e
 left_outside b rules k o ks (j ∷ js) i e s c f =
     let a : Some j ≡ Some i = sym c.1 ∙ e in
     let same : j ≡ i = cc in
-    absurd (outside (λ (x : Rule). x.next) rules j c.0 (ap (slice_get rules) same ∙ s) c.2)
+    absurd (no_link ahead (λ (x : Rule). x.next) rules j c.0 (ap (slice_get rules) same ∙ s) c.2)
 
 pub assumed_outside : (b : Nodes) (rules : List Rule) (assumptions : List Assumption) (first : Option ℕ) (k : Option Key) (which : Candidate) (i : ℕ)
     (left : List Candidate) → which ≡ candidate.Assumed i → slice_get assumptions i ≡ None →
-    AreLeft b rules (map (λ (x : Assumption). x.older) assumptions) first k (Some which) left → ⊥
-assumed_outside b rules assumptions first k which i left e s l = go (subst (λ z. AreLeft b rules (map (λ (x : Assumption). x.older) assumptions) first k (Some z) left) e l)
+    AreLeft b rules (links assumptions) first k (Some which) left → ⊥
+assumed_outside b rules assumptions first k which i left e s l = go (subst (λ z. AreLeft b rules (links assumptions) first k (Some z) left) e l)
   where
-    go : AreLeft b rules (map (λ (x : Assumption). x.older) assumptions) first k (Some (candidate.Assumed i)) left → ⊥
+    go : AreLeft b rules (links assumptions) first k (Some (candidate.Assumed i)) left → ⊥
     go ([], ks, c, d, q) = absurd (cc)
     go (j ∷ ns, ks, c, d, q) =
         let a = c.1 in
         let same : j ≡ i = cc in
-        outside (λ (x : Assumption). x.older) assumptions j c.0 (ap (slice_get assumptions) same ∙ s) c.2
+        no_link back (λ (x : Assumption). x.older) assumptions j c.0 (ap (slice_get assumptions) same ∙ s) c.2
 
 pub program_outside : (b : Nodes) (rules : List Rule) (older : List (Option ℕ)) (first : Option ℕ) (k : Option Key) (which : Candidate) (i : ℕ)
     (left : List Candidate) → which ≡ candidate.Program i → slice_get rules i ≡ None →
@@ -357,7 +368,7 @@ program_outside b rules older first k which i left e s l = go (subst (λ z. AreL
     go (program, (j ∷ ks, c, d, p), q) =
         let a = c.1 in
         let same : j ≡ i = cc in
-        outside (λ (x : Rule). x.next) rules j c.0 (ap (slice_get rules) same ∙ s) c.2
+        no_link ahead (λ (x : Rule). x.next) rules j c.0 (ap (slice_get rules) same ∙ s) c.2
 
 -- spans in order
 

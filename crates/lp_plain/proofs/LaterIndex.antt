@@ -1,15 +1,15 @@
 -- The clauses that the index finds, in a later bank and behind clauses that come to the table.
 use Rattle.std.proofs.Common.{◌≡◌, ℕ, zero, suc, ◌+◌, ◌-◌, ◌<◌, ◌≤◌, List, [], ◌∷◌, ◌++◌, length, cond, Option, refl, sym, ap, ◌∙◌, subst, arith}
 use Rattle.std.specs.Prelude.{All, filter, slice_get}
-use Rattle.std.proofs.lemmas.List.{map-append}
 use Rattle.std.proofs.lemmas.List.Elements.{All-nil, All-cons, All-head, All-tail, All-append}
 use Rattle.lp_lemmas.proofs.Lists.{get_append, get_below}
 use Rattle.lp_term.specs.Nodes.{Nodes, Extends}
 use Rattle.lp_pattern.specs.Growing.{GoesOn}
 use Rattle.lp_plain.specs.declared.table.Rule.{Rule}
 use Rattle.lp_plain.specs.declared.table.Span.{Span}
-use Rattle.lp_plain.specs.Candidates.{IsChain, IsIndex, constant_of, constant_at, is_number, is_of, nexts, numbers, numbers_from, numbers_in}
+use Rattle.lp_plain.specs.Candidates.{IsChain, IsIndex, ahead, constant_of, constant_at, is_number, is_of, nexts, numbers, numbers_from, numbers_in}
 use Rattle.lp_plain.specs.Within.{IsRuleIn}
+use Rattle.lp_plain.proofs.OrderedLinks.{kept_longer}
 use Rattle.lp_plain.proofs.Within.{all_at}
 
 numbers_below : (n i m : ℕ) → i + n ≤ m → All (λ k. k < m) (numbers_from n i)
@@ -48,7 +48,8 @@ module _ (b d : Nodes) (x : Extends b d) (rs more : List Rule) (a : All (IsRuleI
   index_longer : (first : ℕ → Option ℕ) (ks : List ℕ) → All (λ k. k < length rs) ks → IsIndex b rs first ks → IsIndex d (rs ++ more) first ks
   index_longer first ks h i c =
       subst (IsChain (nexts (rs ++ more)) (first c)) (sym (filter_later c ks h))
-      (subst (λ l. IsChain l (first c) (filter (is_of b rs c) ks)) (sym (map-append (λ (r : Rule). r.next) rs more)) (chain_longer (nexts rs) (nexts more) (first c) (filter (is_of b rs c) ks) (i c)))
+      (let l = kept_longer ahead (λ (r : Rule). r.next) rs more in
+      subst (λ l. IsChain l (first c) (filter (is_of b rs c) ks)) (sym l.1) (chain_longer (nexts rs) l.0 (first c) (filter (is_of b rs c) ks) (i c)))
 
 pub index_later : (b d : Nodes) (rs qs : List Rule) (first : ℕ → Option ℕ) (ks : List ℕ) → Extends b d → GoesOn rs qs → All (IsRuleIn (length b.terms)) rs → All (λ k. k < length rs) ks → IsIndex b rs first ks → IsIndex d qs first ks
 index_later b d rs qs first ks x g a h i = subst (λ l. IsIndex d l first ks) (sym g.1) (index_longer b d x rs g.0 a first ks h i)

@@ -6,6 +6,8 @@ mod FormFirsts
 pub mod GoalForms
 pub mod Indexes
 mod Chains
+mod OrderedLinks
+mod Remains
 pub mod Instances
 pub mod ListReads
 pub mod NewestTrees

@@ -22,7 +22,7 @@ use Rattle.lp_plain.specs.declared.newest.Newest.{Newest}
 use Rattle.lp_plain.specs.declared.openness.Standing.{Standing}
 use Rattle.lp_plain.specs.declared.table.Table.{Table}
 use Rattle.lp_plain.specs.declared.types.Renewal.{Renewal}
-use Rattle.lp_plain.specs.Candidates.{IsChain}
+use Rattle.lp_plain.specs.Candidates.{IsChain, back, in_order}
 use Rattle.lp_plain.specs.Entries.{Around, ArePartsOf, HasValues, KeepsGoals}
 use Rattle.lp_plain.specs.Keeping.{KeepsCourse}
 use Rattle.lp_plain.specs.Newest.{IsNewest}
@@ -101,7 +101,7 @@ AreAssumed l (k ∷ ks) (c ∷ cs) = IsAssumed l k c × AreAssumed l ks cs
 
 -- for each assumption the one of the same head before it
 abbrev pub links : List Assumption → List (Option ℕ)
-links xs = map (λ (x : Assumption). x.older) xs
+links xs = in_order back 0 (map (λ (x : Assumption). x.older) xs)
 
 -- the tree finds the first of the clauses that have this head, and the links lead to the others in order
 pub record AreUnder (l : Lists) (tree : Option ℕ) (h : Head) (cs : List Clause) : Type 0 where

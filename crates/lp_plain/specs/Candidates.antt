@@ -1,5 +1,5 @@
 -- The clauses that may meet a goal, by their numbers: the program's are linked by the constants at their heads, the assumed ones by their heads.
-use Rattle.std.specs.Prelude.{◌≡◌, ℕ, zero, suc, ◌-◌, ◌≤◌, Bool, true, false, nat_eq, List, [], ◌∷◌, ◌++◌, map, filter, Option, Some, None, slice_get}
+use Rattle.std.specs.Prelude.{◌≡◌, ℕ, zero, suc, ◌-◌, ◌≤◌, Bool, true, false, if◌then◌else◌, nat_eq, nat_lt, List, [], ◌∷◌, ◌++◌, map, filter, Option, Some, None, slice_get}
 use Rattle.std.specs.Ordering.{int_eq}
 use Rattle.lp_calculus.specs.Term.{Term, atom, constant, text}
 use Rattle.lp_model.specs.Same.{same_name}
@@ -18,10 +18,25 @@ abbrev pub IsChain : (links : List (Option ℕ)) → (first : Option ℕ) → Li
 IsChain links o [] = o ≡ None
 IsChain links o (k ∷ ks) = (next : Option ℕ) × (o ≡ Some k) × (slice_get links k ≡ Some next) × IsChain links next ks
 
+-- a link of a number that leads to a greater one, and one that leads to a smaller one; any other is none
+
+abbrev pub ahead : ℕ → Option ℕ → Option ℕ
+ahead k None = None
+ahead k (Some i) = if nat_lt k i then Some i else None
+
+abbrev pub back : ℕ → Option ℕ → Option ℕ
+back k None = None
+back k (Some i) = if nat_lt i k then Some i else None
+
+-- the links of a list, whose first number is this one, with the kept ones of each
+abbrev pub in_order : (keep : ℕ → Option ℕ → Option ℕ) → (first : ℕ) → List (Option ℕ) → List (Option ℕ)
+in_order keep n [] = []
+in_order keep n (o ∷ os) = keep n o ∷ in_order keep (suc n) os
+
 -- the program's clauses
 
 abbrev pub nexts : List Rule → List (Option ℕ)
-nexts rules = map (λ (r : Rule). r.next) rules
+nexts rules = in_order ahead 0 (map (λ (r : Rule). r.next) rules)
 
 abbrev pub constant_of : Term → Option ℕ
 constant_of (atom (constant c ts)) = Some c

@@ -10,3 +10,4 @@ pub mod Answering
 pub mod Fitting
 pub mod Evaluating
 pub mod Building
+pub mod Remaining

@@ -166,7 +166,7 @@ pub(crate) fn put_assume(
     ensures none { IfOk result (λ turn. turn ≡ Turn.On → BindsNone machine.old machine.new) }
     ensures stands { IfOk result (λ turn. turn ≡ Turn.On → StandsIn machine.old → StandsIn machine.new) }
     ensures grown { IfOk result (λ turn. turn ≡ Turn.On → GrowsOn machine.old machine.new) }
-    ensures choices { IfOk result (λ turn. turn ≡ Turn.On → machine.new.choices.items ≡ machine.old.choices.items) }
+    ensures choices { OnOk result (machine.new.choices.items ≡ machine.old.choices.items) }
     ensures marks { IfOk result (λ turn. turn ≡ Turn.On → PutsMarks machine.old machine.new place behind machine.new.branch.goals) }
     ensures parts { IfOk result (λ turn. turn ≡ Turn.On → (a : Around) (cs : Clauses) (hs : Goals) (σ : ℕ → Term) (b : Branch) → StandsIn machine.old → ArePlaced machine.old a → IsPlaceAt (lists_of machine.old) a place → AreClausesOf machine.old.bank machine.old.table rules cs →
         IsNumbered (shown machine.old.table).frees free (λ f. collect_clauses f 0 cs) → IsOf machine.old place goals hs σ → IsBehind machine.old a behind b → (u n height : ℕ) (P : List Clause) →

@@ -25,6 +25,7 @@ ghost use Rattle.lp_plain.specs.Within.{StandsIn};
 ghost use Rattle.lp_plain.specs.WrittenSearch.{IsWrittenSearch};
 ghost use Rattle.lp_plain.specs.WrittenTable.{StandsWritten};
 ghost use Rattle.lp_plain.specs.inner.Beginning.{CountsFirst, HearsFirst};
+ghost use Rattle.lp_plain.specs.inner.Remaining.{IsSpent, MayChoose, Uses};
 ghost use Rattle.lp_term.specs.Nodes.{tree};
 
 use crate::arithmetic::{Outcome, Value, evaluate, holds, term_of};
@@ -200,6 +201,7 @@ fn put_others(machine: &mut Machine, call: &Call, candidate: Candidate) -> Resul
     ensures counts { OnOk result (machine.new.counts ≡ machine.old.counts) }
     ensures written { OnOk result ((ar : ℕ → ℕ) → StandsIn machine.old → IsWrittenSearch machine.old ar → IsWrittenSearch machine.new ar) }
     ensures at_try { OnOk result ((qv : Query) (a : Around) (s : State Task) → IsTrying qv machine.old a call.now candidate s → IsAtTry qv machine.new a call.now candidate (length machine.old.choices.items) s) }
+    ensures spent { OnOk result (IsSpent machine.old machine.new candidate) }
 {
     let found = machine.candidate_after(call, candidate);
     let Some(next) = found else {
@@ -220,6 +222,7 @@ pub(crate) fn try_candidate(
     ensures steps { OnOk result (machine.new.counts.steps ≡ machine.old.counts.steps) }
     ensures program { OnOk result (KeepsProgram machine.old machine.new) }
     ensures ends { IfOk result IsGoalTurn }
+    ensures spent { OnOk result (IsSpent machine.old machine.new candidate) }
 {
     let mark = machine.choices.len();
     put_others(machine, call, candidate)?;
@@ -277,6 +280,7 @@ fn take_call(
     ensures steps { OnOk result (machine.new.counts.steps ≡ machine.old.counts.steps) }
     ensures program { OnOk result (KeepsProgram machine.old machine.new) }
     ensures ends { IfOk result IsGoalTurn }
+    ensures few { OnOk result (MayChoose machine.old machine.new) }
 {
     let looked = looked_call(machine, goal, head, first, place, behind)?;
     let Some(call) = looked else {
@@ -306,6 +310,7 @@ pub(crate) fn take_atom<W: Watch>(
     ensures same { crowd.new.watchers.ghost_name ≡ crowd.old.watchers.ghost_name }
     ensures program { OnOk result (KeepsProgram machine.old machine.new) }
     ensures ends { IfOk result IsGoalTurn }
+    ensures uses { IfOk result (λ turn. Uses turn machine.old machine.new) }
 {
     if !take_step(machine) {
         return Ok(Turn::Ended(Ending::Steps));
@@ -350,6 +355,7 @@ pub(crate) fn take_cut<W: Watch>(
     ensures tasks { IfOk result (λ turn. turn ≡ Turn.On → (tss : List (List Task)) (keep : ℕ) → HaveTasks machine.old tss → IsMarkOf machine.old tss place.mark keep → CutsTasks machine.old machine.new place.mark keep tss) }
     ensures program { OnOk result (KeepsProgram machine.old machine.new) }
     ensures ends { IfOk result IsGoalTurn }
+    ensures uses { IfOk result (λ turn. Uses turn machine.old machine.new) }
 {
     if !take_step(machine) {
         return Ok(Turn::Ended(Ending::Steps));

@@ -1,14 +1,17 @@
 // The clauses that may meet a goal: first the assumed ones, the newest first, then those of the program that pass the
 // filter, in order.
-ghost use Rattle.std.specs.Prelude.{◌≡◌, ◌<◌, ◌≤◌, ◌-◌, ◌++◌, All, length, map, List, [], ◌∷◌, ℕ, suc, filter, drop, nat_eq, Option, Some, None, slice_get, IfOk};
+ghost use Rattle.std.specs.Prelude.{◌≡◌, ◌<◌, ◌≤◌, ◌-◌, ◌^◌, ◌++◌, All, length, map, List, [], ◌∷◌, ℕ, suc, filter, drop, nat_eq, Option, Some, None, slice_get, IfOk, IfSome};
 ghost use Rattle.std.specs.HashMap.{get};
+ghost use Rattle.lp_plain.specs.Assuming.{links};
 ghost use Rattle.lp_plain.specs.Newest.{IsNewest};
-ghost use Rattle.lp_plain.specs.Candidates.{AreInOrder, constant_at, set_next, unlinked, IsLinked, IsIndex, IsChain, IsLeft, AreLeft, nexts, numbers, numbers_in, passes, first_for, in_turn};
+ghost use Rattle.lp_plain.specs.inner.Remaining.{ComesAfter, assumed_rank, program_rank, rank};
+ghost use Rattle.lp_plain.specs.Candidates.{AreInOrder, ahead, constant_at, set_next, unlinked, IsLinked, IsIndex, IsChain, IsLeft, AreLeft, nexts, numbers, numbers_in, passes, first_for, in_turn};
 
 use crate::choice::Call;
 use crate::frame::Assumption;
 use crate::head::{Head, Key, may_meet};
 use crate::newest::{Newest, newest_of};
+use crate::scope::older;
 use crate::table::{Rule, Span};
 use lp_base::Memory;
 use lp_term::{Bank, TermNode};
@@ -115,6 +118,19 @@ pub(crate) fn index_of(
     Ok(index)
 }
 
+// The number of the next clause, where it is one behind the other.
+fn later(next: Option<usize>, number: usize) -> Option<usize>
+    ensures { result ≡ ahead number next }
+{
+    let Some(at) = next else {
+        return None;
+    };
+    if number < at {
+        return Some(at);
+    }
+    None
+}
+
 // The first clause of a chain that passes the filter.
 fn program_from(
     bank: &Bank,
@@ -122,7 +138,8 @@ fn program_from(
     key: Option<Key>,
     from: Option<usize>,
 ) -> Option<usize>
-    ensures { (ks : List ℕ) → IsChain (nexts rules.now.items) from ks → IsLeft bank.now rules.now.items key result (filter (passes bank.now rules.now.items key) ks) }
+    ensures left { (ks : List ℕ) → IsChain (nexts rules.now.items) from ks → IsLeft bank.now rules.now.items key result (filter (passes bank.now rules.now.items key) ks) }
+    ensures ranks { IfSome result (λ k. 2 ^ 64 - k ≤ program_rank from) }
 {
     let mut at = from;
     // A chain passes no clause twice.
@@ -136,7 +153,7 @@ fn program_from(
         if may_meet(bank, rule.key, key) {
             return Some(number);
         }
-        at = rule.next;
+        at = later(rule.next, number);
     }
     None
 }
@@ -157,7 +174,8 @@ fn program_candidate(
     key: Option<Key>,
     from: Option<usize>,
 ) -> Option<Candidate>
-    ensures { (older : List (Option ℕ)) (first : Option ℕ) (ks : List ℕ) → IsChain (nexts rules.now.items) from ks → AreLeft bank.now rules.now.items older first key result (in_turn bank.now rules.now.items key [] ks) }
+    ensures left { (older : List (Option ℕ)) (first : Option ℕ) (ks : List ℕ) → IsChain (nexts rules.now.items) from ks → AreLeft bank.now rules.now.items older first key result (in_turn bank.now rules.now.items key [] ks) }
+    ensures ranks { IfSome result (λ c. rank c ≤ program_rank from) }
 {
     match program_from(bank, rules, key, from) {
         Some(number) => Some(Candidate::Program(number)),
@@ -173,7 +191,8 @@ fn assumed_or_first(
     call: &Call,
     assumed: Option<usize>,
 ) -> Option<Candidate>
-    ensures { (older : List (Option ℕ)) (ns ks : List ℕ) → IsChain older assumed ns → IsChain (nexts rules.now.items) (first_for (λ c. get nat_eq index.now c) call.now.head) ks → AreLeft bank.now rules.now.items older (first_for (λ c. get nat_eq index.now c) call.now.head) call.now.key result (in_turn bank.now rules.now.items call.now.key ns ks) }
+    ensures left { (older : List (Option ℕ)) (ns ks : List ℕ) → IsChain older assumed ns → IsChain (nexts rules.now.items) (first_for (λ c. get nat_eq index.now c) call.now.head) ks → AreLeft bank.now rules.now.items older (first_for (λ c. get nat_eq index.now c) call.now.head) call.now.key result (in_turn bank.now rules.now.items call.now.key ns ks) }
+    ensures ranks { IfSome result (λ c. rank c ≤ assumed_rank assumed) }
 {
     match assumed {
         Some(number) => Some(Candidate::Assumed(number)),
@@ -202,20 +221,23 @@ pub(crate) fn candidate_after(
     call: &Call,
     candidate: Candidate,
 ) -> Option<Candidate>
-    ensures { (left : List Candidate) → AreLeft bank.now rules.now.items (map (λ a. a.older) assumptions.now.items) (first_for (λ c. get nat_eq index.now c) call.now.head) call.now.key (Some candidate) left → (rest : List Candidate) × (left ≡ candidate ∷ rest) × AreLeft bank.now rules.now.items (map (λ a. a.older) assumptions.now.items) (first_for (λ c. get nat_eq index.now c) call.now.head) call.now.key result rest }
+    ensures next { (left : List Candidate) → AreLeft bank.now rules.now.items (links assumptions.now.items) (first_for (λ c. get nat_eq index.now c) call.now.head) call.now.key (Some candidate) left → (rest : List Candidate) × (left ≡ candidate ∷ rest) × AreLeft bank.now rules.now.items (links assumptions.now.items) (first_for (λ c. get nat_eq index.now c) call.now.head) call.now.key result rest }
+    ensures less { ComesAfter candidate result }
 {
     match candidate {
         Candidate::Assumed(number) => {
             let Some(assumption) = assumptions.get(number) else {
                 return None;
             };
-            assumed_or_first(bank, rules, index, call, assumption.older)
+            let before = older(assumption.older, number);
+            assumed_or_first(bank, rules, index, call, before)
         }
         Candidate::Program(number) => {
             let Some(rule) = rules.get(number) else {
                 return None;
             };
-            program_candidate(bank, rules, call.key, rule.next)
+            let behind = later(rule.next, number);
+            program_candidate(bank, rules, call.key, behind)
         }
     }
 }

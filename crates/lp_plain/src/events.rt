@@ -21,6 +21,7 @@ ghost use Rattle.lp_plain.specs.Stepping.{notes_told, steps_until};
 ghost use Rattle.lp_plain.specs.Telling.{IsEventOf};
 ghost use Rattle.lp_plain.specs.inner.Between.{IsNoted, IsToTell};
 ghost use Rattle.lp_plain.specs.inner.Following.{Course, Passes, Stands, tally_told, turn_told};
+ghost use Rattle.lp_plain.specs.inner.Remaining.{left_behind};
 
 use crate::answer::answer_of;
 use crate::machine::Machine;
@@ -66,6 +67,7 @@ fn take_turn<W: Watch>(
     ensures begins { (c : Course) (x : Tally) → Stands c x turn machine.old → HearsPart constants.now x.notes (places crowd.old.texts.items (map W.seen crowd.old.watchers.now.items)) (places crowd.new.texts.items (map W.seen crowd.new.watchers.now.items)) }
     ensures within { OnOk result ((c : Course) (x : Tally) → Stands c x turn machine.old → machine.new.counts.steps ≤ machine.old.counts.steps + x.steps) }
     ensures same { crowd.new.watchers.ghost_name ≡ crowd.old.watchers.ghost_name }
+    ensures less { IfOk result (λ next. 0 < left_behind turn machine.old → left_behind next machine.new < left_behind turn machine.old) }
 {
     match turn {
         Turn::On => {
@@ -96,7 +98,7 @@ fn run<W: Watch>(
     ensures same { crowd.new.watchers.ghost_name ≡ crowd.old.watchers.ghost_name }
 {
     let mut turn = first;
-    'turns: for _ in 0..u64::MAX {
+    'turns: loop {
         match turn {
             Turn::Answered => return Ok(Told::Answered),
             Turn::Ended(ending) => return Ok(Told::Ended(ending)),
@@ -110,7 +112,6 @@ fn run<W: Watch>(
             }
         }
     }
-    Err(Memory)
 }
 
 impl Search {

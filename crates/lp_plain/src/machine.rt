@@ -33,6 +33,7 @@ ghost use Rattle.lp_plain.specs.Tables.{shown};
 ghost use Rattle.lp_plain.specs.Trying.{AreApplied, AreOfProgram, AreTries, AreTriesApart, HasProgram, IsCallOf, IsNext, IsTried, all_clauses, first_in};
 ghost use Rattle.lp_plain.specs.Within.{IsTodoIn, StandsIn};
 ghost use Rattle.lp_plain.specs.WrittenTable.{PutsList};
+ghost use Rattle.lp_plain.specs.inner.Remaining.{ComesAfter, IsPopped};
 
 use crate::act::Act;
 use crate::candidates::{Candidate, Index, candidate_after, first_candidate};
@@ -195,6 +196,7 @@ impl Machine {
     pub(crate) fn candidate_after(&self, call: &Call, candidate: Candidate) -> Option<Candidate>
         ensures next { IsNext self.now call.now candidate result }
         ensures tries { (cs : List Clause) → AreTries (lists_of self.now) (first_in self.now call.now.head) call.now.key (Some candidate) cs → IsTried (lists_of self.now) (first_in self.now call.now.head) call.now.key candidate result cs }
+        ensures less { ComesAfter candidate result }
     {
         candidate_after(
             &self.bank,
@@ -283,6 +285,7 @@ impl Machine {
         ensures none { IfOk result (λ o. self.old.choices.items ≡ [] → o ≡ None) }
         ensures lost { OnOk result (self.new.counts.lost ≡ self.old.counts.lost) }
         ensures steps { OnOk result (self.new.counts.steps ≡ self.old.counts.steps) }
+        ensures popped { IfOk result (λ o. IfSome o (IsPopped self.old self.new)) }
     {
         let Some(choice) = self.choices.pop() else {
             return Ok(None);

@@ -1,5 +1,5 @@
 // Negated goals: the search of one stands on that of its branch.
-ghost use Rattle.std.specs.Prelude.{◌≡◌, ◌≢◌, ◌+◌, ◌≤◌, ℕ, List, map, [], length, take, true, false, None, Some, OnOk, IfOk};
+ghost use Rattle.std.specs.Prelude.{◌≡◌, ◌≢◌, ◌+◌, ◌<◌, ◌≤◌, ℕ, List, map, [], length, take, true, false, None, Some, OnOk, IfOk};
 ghost use Rattle.lp_watch.specs.Crowd.{places};
 ghost use Rattle.lp_model.specs.declared.ending.Ending.{Ending};
 ghost use Rattle.lp_plain.specs.declared.choice.Untried.{Untried};
@@ -23,6 +23,7 @@ ghost use Rattle.lp_plain.specs.Turns.{IsGoalTurn, KeepsProgram};
 ghost use Rattle.lp_plain.specs.Within.{StandsIn};
 ghost use Rattle.lp_plain.specs.WrittenSearch.{IsWrittenSearch, WritesList};
 ghost use Rattle.lp_plain.specs.inner.Beginning.{CountsFirst, HearsFirst};
+ghost use Rattle.lp_plain.specs.inner.Remaining.{Uses, left_behind};
 
 use crate::choice::{Denial, Untried};
 use crate::frame::Place;
@@ -117,6 +118,7 @@ pub(crate) fn take_not<W: Watch>(
     ensures ends { IfOk result IsGoalTurn }
     ensures inner { IfOk result (λ turn. turn ≡ Turn.On → (a : Reading) (hs : Goals) (σ : ℕ → Term) (b : Branch) (w : Written) → StandsIn machine.old → IsOf machine.old place goals hs σ → IsBehind machine.old a behind b → a.mark (length machine.new.choices.items) ≡ 0 →
         let gs : Goals = in_scope σ place.values.types hs in IsDenied machine.new a (look_not (entry_at a place (Denied w gs)) b gs (Some false))) }
+    ensures uses { IfOk result (λ turn. Uses turn machine.old machine.new) }
 {
     if !take_step(machine) {
         return Ok(Turn::Ended(Ending::Steps));
@@ -142,6 +144,7 @@ pub(crate) fn end_branch(machine: &mut Machine) -> Turn
     ensures steps { machine.new.counts.steps ≡ machine.old.counts.steps }
     ensures program { KeepsProgram machine.old machine.new }
     ensures held { (qv : Query) (s : State Task) → IsState qv machine.old s → machine.old.branch.goals ≡ None → (number : ℕ) → machine.old.denied ≡ Some number → IsHeldBy qv result machine.new s }
+    ensures less { left_behind result machine.new < left_behind Turn.On machine.old }
 {
     let Some(number) = machine.denied else {
         return Turn::Answered;

@@ -28,6 +28,7 @@ ghost use Rattle.lp_plain.specs.Tables.{AreClausesOf, IsNumbered, shown};
 ghost use Rattle.lp_plain.specs.Taking.{IsApartFlat, IsApartForm, KeepsNew, TakesApart, TakesKnown};
 ghost use Rattle.lp_plain.specs.Turns.{IsGoalTurn, KeepsProgram};
 ghost use Rattle.lp_plain.specs.Within.{StandsIn};
+ghost use Rattle.lp_plain.specs.inner.Remaining.{MayChoose, Uses};
 ghost use Rattle.lp_plain.specs.WrittenSearch.{IsShut, IsShutIn, WritesBoth, WritesFlat, WritesList, WritesWhere};
 
 use crate::act::Act;
@@ -91,6 +92,7 @@ fn put_either(
     ensures aside { OnOk result (PutsAside machine.old machine.new place behind) }
     ensures parts { OnOk result ((a : Around) (hs ks : Goals) (σ : ℕ → Term) (b : Branch) → IsOf machine.old place left hs σ → IsOf machine.old place right ks σ → IsBehind machine.old a behind b →
         (u n height : ℕ) (P : List Clause) → let g : Goal = Either (in_scope σ place.values.types hs) (in_scope σ place.values.types ks) in ArePartsOf machine.old machine.new a (look_goal u n P height (entry_at a place g) b g)) }
+    ensures few { OnOk result (MayChoose machine.old machine.new) }
 {
     let other = machine.put_list(right, place, behind)?;
     machine.put_choice(Untried::Goals(other))?;
@@ -183,6 +185,7 @@ pub(crate) fn put_parts(
     ensures assume { IfOk result (λ turn. turn ≡ Turn.On → (s : Span) (l free : ℕ) → goal ≡ Flat.Assume s l free → (a : Around) (cs : Clauses) (hs : Goals) (σ : ℕ → Term) (b : Branch) → StandsIn machine.old → ArePlaced machine.old a → IsPlaceAt (lists_of machine.old) a place →
         AreClausesOf machine.old.bank machine.old.table s cs → IsNumbered (shown machine.old.table).frees free (λ f. collect_clauses f 0 cs) → IsOf machine.old place l hs σ → IsBehind machine.old a behind b → (u n height : ℕ) (P : List Clause) →
         let g : Goal = Assume (written_at σ place.values.types (written_in_clauses cs)) (clauses_in σ place.values.types cs) (in_scope σ place.values.types hs) in AssumesFor machine.old machine.new a (look_goal u n P height (entry_at a place g) b g)) }
+    ensures uses { IfOk result (λ turn. Uses turn machine.old machine.new) }
 {
     if !take_apart(machine) {
         return Ok(Turn::Ended(Ending::Deep));
@@ -249,6 +252,7 @@ fn put_or(
     ensures kept { OnOk result ((a : Around) → StandsIn machine.old → ArePlaced machine.old a → IsPlaceAt (lists_of machine.old) a place → KeepsNew machine.old machine.new a) }
     ensures parts { OnOk result ((a : Around) (b : Branch) → IsBehind machine.old a behind b → (u n height : ℕ) (P : List Clause) (t : Term) (g : Goal) →
         ArePartsOf machine.old machine.new a (look_form u n P height (entry_at a place g) b t (two_sided.Or (tree machine.old.bank left.0) (tree machine.old.bank right.0)))) }
+    ensures few { OnOk result (MayChoose machine.old machine.new) }
 {
     let other = machine.put_frame(Todo::Term(right), place, behind)?;
     machine.put_choice(Untried::Goals(other))?;
@@ -381,6 +385,7 @@ pub(crate) fn put_connective(
         ArePartsOf machine.old machine.new a (look_form u n P height (entry_at a place g) b t (connective_in machine.old.bank connective))) }
     ensures exists { IfOk result (λ turn. turn ≡ Turn.On → (of : TypeId) (s : TermId) → connective ≡ known.Exists of s → (a : Around) (b : Branch) → StandsIn machine.old → IsConnectiveIn machine.old.bank connective → IsBehind machine.old a behind b → (u n height : ℕ) (P : List Clause) (t : Term) (g : Goal) →
         ArePartsOf machine.old machine.new a (look_form u n P height (entry_at a place g) b t (connective_in machine.old.bank connective))) }
+    ensures uses { IfOk result (λ turn. Uses turn machine.old machine.new) }
 {
     if !take_apart(machine) {
         return Ok(Turn::Ended(Ending::Deep));

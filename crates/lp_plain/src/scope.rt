@@ -2,6 +2,7 @@
 ghost use Rattle.std.specs.Prelude.{◌≡◌, ℕ, ◌≤◌, List, ◌++◌, [], take, Option, slice_get, IfOk, OnOk};
 ghost use Rattle.lp_term.specs.declared.node.TermId.{TermId};
 ghost use Rattle.lp_pattern.specs.Growing.{GoesOn};
+ghost use Rattle.lp_plain.specs.Candidates.{back};
 ghost use Rattle.lp_plain.specs.Scopes.{IsScope, KeepsScopes, block_count, value_count, blocks_to};
 
 use lp_base::Memory;
@@ -34,6 +35,7 @@ pub(crate) struct ScopeMark {
 pub(crate) fn older(earlier: Option<usize>, number: usize) -> Option<usize>
     ensures older { blocks_to result ≤ number }
     ensures same { blocks_to earlier ≤ number → result ≡ earlier }
+    ensures is { result ≡ back number earlier }
 {
     let Some(at) = earlier else {
         return None;

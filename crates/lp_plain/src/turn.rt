@@ -35,6 +35,7 @@ ghost use Rattle.lp_plain.specs.Within.{StandsIn};
 ghost use Rattle.lp_plain.specs.WrittenSearch.{IsApartAtHand, IsWrittenSearch, WritesFlat, WritesGoals};
 ghost use Rattle.lp_plain.specs.inner.Beginning.{CountsFirst, HearsFirst};
 ghost use Rattle.lp_plain.specs.inner.Following.{Course, Follows, Leaves, Stands};
+ghost use Rattle.lp_plain.specs.inner.Remaining.{Uses, left_behind};
 
 use crate::act::Act;
 use crate::atomic::{take_atom, take_cut, try_candidate};
@@ -75,6 +76,7 @@ fn take_flat<W: Watch>(
     ensures begins { (qv : Query) (a : Around) (raw : Branch) (s : State Task) → IsRunning qv machine.old a raw s → IsAtGoal machine.old a place goal behind raw → IsWrittenFlat machine.old qv.arity place goal → HearsFirst constants.now (places crowd.old.texts.items (map W.seen crowd.old.watchers.now.items)) (places crowd.new.texts.items (map W.seen crowd.new.watchers.now.items)) s }
     ensures within { OnOk result ((qv : Query) (a : Around) (raw : Branch) (s : State Task) → IsRunning qv machine.old a raw s → IsAtGoal machine.old a place goal behind raw → IsWrittenFlat machine.old qv.arity place goal → CountsFirst machine.old machine.new s) }
     ensures same { crowd.new.watchers.ghost_name ≡ crowd.old.watchers.ghost_name }
+    ensures uses { IfOk result (λ turn. Uses turn machine.old machine.new) }
 {
     match goal {
         Flat::Atom(term) => {
@@ -146,6 +148,7 @@ fn take_term<W: Watch>(
     ensures begins { (qv : Query) (a : Around) (raw : Branch) (s : State Task) → IsRunning qv machine.old a raw s → IsAtTerm machine.old a place term behind raw → HearsFirst constants.now (places crowd.old.texts.items (map W.seen crowd.old.watchers.now.items)) (places crowd.new.texts.items (map W.seen crowd.new.watchers.now.items)) s }
     ensures within { OnOk result ((qv : Query) (a : Around) (raw : Branch) (s : State Task) → IsRunning qv machine.old a raw s → IsAtTerm machine.old a place term behind raw → CountsFirst machine.old machine.new s) }
     ensures same { crowd.new.watchers.ghost_name ≡ crowd.old.watchers.ghost_name }
+    ensures uses { IfOk result (λ turn. Uses turn machine.old machine.new) }
 {
     let Some(goal) = head_normal(machine, term)? else {
         return Ok(Turn::Ended(Ending::Deep));
@@ -184,6 +187,7 @@ fn take_first<W: Watch>(
     ensures begins { (qv : Query) (a : Around) (raw : Branch) (s : State Task) → IsRunning qv machine.old a raw s → IsAtGoals machine.old a place goals behind raw → AreWrittenGoals machine.old qv.arity place goals → HearsFirst constants.now (places crowd.old.texts.items (map W.seen crowd.old.watchers.now.items)) (places crowd.new.texts.items (map W.seen crowd.new.watchers.now.items)) s }
     ensures within { OnOk result ((qv : Query) (a : Around) (raw : Branch) (s : State Task) → IsRunning qv machine.old a raw s → IsAtGoals machine.old a place goals behind raw → AreWrittenGoals machine.old qv.arity place goals → CountsFirst machine.old machine.new s) }
     ensures same { crowd.new.watchers.ghost_name ≡ crowd.old.watchers.ghost_name }
+    ensures less { IfOk result (λ turn. left_behind turn machine.new < left_behind Turn.On machine.old) }
 {
     let found = machine.table.goal(goals.from);
     let Some(goal) = found else {
@@ -224,6 +228,7 @@ pub(crate) fn take_goal<W: Watch>(
     ensures begins { (c : Course) (x : Tally) → Stands c x Turn.On machine.old → HearsPart constants.now x.notes (places crowd.old.texts.items (map W.seen crowd.old.watchers.now.items)) (places crowd.new.texts.items (map W.seen crowd.new.watchers.now.items)) }
     ensures within { OnOk result ((c : Course) (x : Tally) → Stands c x Turn.On machine.old → machine.new.counts.steps ≤ machine.old.counts.steps + x.steps) }
     ensures same { crowd.new.watchers.ghost_name ≡ crowd.old.watchers.ghost_name }
+    ensures less { IfOk result (λ turn. left_behind turn machine.new < left_behind Turn.On machine.old) }
 {
     let Some(number) = machine.branch.goals else {
         return Ok(end_branch(machine));
@@ -291,6 +296,7 @@ pub(crate) fn go_back(machine: &mut Machine) -> Result<Turn, Memory>
     ensures ends { IfOk result (λ turn. machine.old.choices.items ≡ [] → (a : Around) (s : State Task) → IsBackOf machine.old a s → EndsSo turn machine.old.counts.lost s) }
     ensures stands { IfOk result (λ turn. (c : Course) (x : Tally) → Stands c x Turn.Back machine.old → Leaves c x quiet turn machine.new) }
     ensures steps { OnOk result (machine.new.counts.steps ≡ machine.old.counts.steps) }
+    ensures less { IfOk result (λ turn. left_behind turn machine.new < left_behind Turn.Back machine.old) }
 {
     let Some(untried) = machine.take_choice()? else {
         if machine.counts.lost {

@@ -44,7 +44,7 @@ returns-clause-marks c = λ on l u h k j.
     c.in_ok-front.ensures.marks l u (subst (λ z. HasMarks l u z.items c.args.behind) (sym (s.frames ∙ g.frames)) h) k j
 
 pub returns-clause-choices : goal.returns-clause-choices
-returns-clause-choices c = λ on. c.in_ok-front.ensures.course.choices ∙ c.in_ok-number.ensures.stood.course.choices ∙ c.in_ok-found.ensures.more.course.choices
+returns-clause-choices c = c.in_ok-front.ensures.course.choices ∙ c.in_ok-number.ensures.stood.course.choices ∙ c.in_ok-found.ensures.more.course.choices
 
 pub returns-clause-none : goal.returns-clause-none
 returns-clause-none c = λ on.
@@ -112,7 +112,7 @@ pub returns-in_default-clause-grown : goal.returns-in_default-clause-grown
 returns-in_default-clause-grown c = λ on. absurd (let q : Turn.Back ≡ Turn.On = on in cc)
 
 pub returns-in_default-clause-choices : goal.returns-in_default-clause-choices
-returns-in_default-clause-choices c = λ on. absurd (let q : Turn.Back ≡ Turn.On = on in cc)
+returns-in_default-clause-choices c = c.in_ok-found.ensures.more.course.choices
 
 pub returns-in_default-clause-marks : goal.returns-in_default-clause-marks
 returns-in_default-clause-marks c = λ on l u h k j. absurd (let q : Turn.Back ≡ Turn.On = on in cc)

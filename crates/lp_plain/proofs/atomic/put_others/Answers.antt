@@ -4,6 +4,8 @@ use Rattle.lp_plain.specs.declared.choice.Untried.{Untried}
 use Rattle.lp_plain.specs.Trying.{IsNext}
 use Rattle.lp_plain.proofs.Others.{alone_at, others_at}
 use Rattle.lp_plain.proofs.WrittenSearches.{search_aside}
+use Rattle.lp_plain.specs.inner.Remaining.{ComesAfter}
+use Rattle.lp_plain.proofs.Remains.{none_spent, others_spent}
 use Rattle.lp_plain.proofs.atomic.put_others.Goals as goal
 
 pub returns-in_default-clause-at_try : goal.returns-in_default-clause-at_try
@@ -50,3 +52,12 @@ pub returns-clause-written : goal.returns-clause-written
 returns-clause-written c = λ ar i w.
     let p = c.in_ok-put_choice.ensures in
     search_aside c.args.machine.now c.put_choice.new.self (Untried.Clauses c.args.call.now c.in-Some.next) i p.goals p.frames p.assumed p.alternative ar w
+
+pub returns-in_default-clause-spent : goal.returns-in_default-clause-spent
+returns-in_default-clause-spent c = none_spent c.args.machine.now c.args.candidate
+
+pub returns-clause-spent : goal.returns-clause-spent
+returns-clause-spent c =
+    let p = c.in_ok-put_choice.ensures in
+    others_spent c.args.machine.now c.put_choice.new.self c.args.call.now c.args.candidate c.in-Some.next
+    (subst (ComesAfter c.args.candidate) c.in-Some.is c.candidate_after-found.ensures.less) p.counts p.more

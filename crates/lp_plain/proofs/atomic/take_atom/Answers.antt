@@ -26,6 +26,7 @@ use Rattle.lp_plain.proofs.StepTaken.{going_behind, step_kept}
 use Rattle.lp_plain.proofs.WrittenTurns.{bound_written, only_bound, step_stands, step_written}
 use Rattle.std.proofs.Common.{inl, inr}
 use Rattle.lp_plain.proofs.AtomTells.{atom_tells}
+use Rattle.lp_plain.proofs.Remains.{same_few, step_used}
 use Rattle.lp_plain.proofs.atomic.take_atom.Goals as goal
 
 -- with its step and note
@@ -448,3 +449,39 @@ returns-in-Other-clause-within g c = λ qv a raw s h at i.
       atom_tells qv m (going_behind c.take_step.new.machine o) a raw s h c.args.place c.args.goal o at (step_kept m c.take_step.new.machine o t.goals t.assumed t.frames t.denied t.branch)
           t.choices (t.counts refl) (t.there refl) c.args.form i,
     )
+
+pub returns-then-not-take_step-clause-uses : goal.returns-then-not-take_step-clause-uses
+returns-then-not-take_step-clause-uses g c = λ e. absurd e
+
+pub returns-in_ok-unified-in-Equal-clause-uses : goal.returns-in_ok-unified-in-Equal-clause-uses
+returns-in_ok-unified-in-Equal-clause-uses g c = λ e.
+    let t = c.if-not-take_step.ensures in
+    let k = going_behind c.take_step.new.machine c.args.behind in
+    step_used c.args.machine.now k c.equate.new.machine (t.counts refl) t.choices (t.there refl) (let b = c.in_ok-unified-in-Equal.ensures.bound in same_few k c.equate.new.machine b.counts (ap (λ z. z.items) b.choices))
+
+pub returns-in_ok-turn-in-Is-clause-uses : goal.returns-in_ok-turn-in-Is-clause-uses
+returns-in_ok-turn-in-Is-clause-uses g c = λ e.
+    let t = c.if-not-take_step.ensures in
+    let k = going_behind c.take_step.new.machine c.args.behind in
+    step_used c.args.machine.now k c.assign.new.machine (t.counts refl) t.choices (t.there refl) (let b = c.in_ok-turn-in-Is.ensures.bound in same_few k c.assign.new.machine b.counts (ap (λ z. z.items) b.choices))
+
+pub returns-in_ok-turn-in-Order-clause-uses : goal.returns-in_ok-turn-in-Order-clause-uses
+returns-in_ok-turn-in-Order-clause-uses g c = λ e.
+    let t = c.if-not-take_step.ensures in
+    let k = going_behind c.take_step.new.machine c.args.behind in
+    step_used c.args.machine.now k c.compare.new.machine (t.counts refl) t.choices (t.there refl) (let b = c.in_ok-turn-in-Order.ensures.only.same in same_few k c.compare.new.machine (ap (λ z. z.counts) b) (ap (λ z. z.choices.items) b))
+
+pub returns-in_ok-turn-in-Call-clause-uses : goal.returns-in_ok-turn-in-Call-clause-uses
+returns-in_ok-turn-in-Call-clause-uses g c = λ e.
+    let t = c.if-not-take_step.ensures in
+    let k = going_behind c.take_step.new.machine c.args.behind in
+    step_used c.args.machine.now k c.take_call.new.machine (t.counts refl) t.choices (t.there refl) (c.in_ok-turn-in-Call.ensures.few)
+
+pub returns-in-Flexible-clause-uses : goal.returns-in-Flexible-clause-uses
+returns-in-Flexible-clause-uses g c = λ e. absurd e
+
+pub returns-in-Other-clause-uses : goal.returns-in-Other-clause-uses
+returns-in-Other-clause-uses g c = λ e.
+    let t = c.if-not-take_step.ensures in
+    let k = going_behind c.take_step.new.machine c.args.behind in
+    step_used c.args.machine.now k k (t.counts refl) t.choices (t.there refl) (same_few k k refl refl)

@@ -2,6 +2,7 @@ use Rattle.std.proofs.Common.{◌∙◌, ap, subst}
 use Rattle.lp_plain.specs.Calling.{IsLookedAs}
 use Rattle.lp_plain.proofs.CallEnds.{deep_leads, none_on, plain_call, some_on}
 use Rattle.lp_plain.proofs.ProgramKept.{only_keeps, program_then}
+use Rattle.lp_plain.proofs.Remains.{few_then, same_few, spent_few}
 use Rattle.lp_plain.proofs.atomic.take_call.Goals as goal
 
 pub returns-in_default-clause-leads : goal.returns-in_default-clause-leads
@@ -51,3 +52,21 @@ returns-in_default-found-clause-steps c = ap (λ z. z.counts.steps) c.in_ok-look
 
 pub returns-clause-steps : goal.returns-clause-steps
 returns-clause-steps c = c.in_ok-turn.ensures.steps ∙ ap (λ z. z.counts.steps) c.in_ok-looked.ensures.only.same
+
+pub returns-in_default-clause-few : goal.returns-in_default-clause-few
+returns-in_default-clause-few c =
+    let e = c.in_ok-looked.ensures.only.same in
+    same_few c.args.machine.now c.looked_call.new.machine (ap (λ z. z.counts) e) (ap (λ z. z.choices.items) e)
+
+pub returns-in_default-found-clause-few : goal.returns-in_default-found-clause-few
+returns-in_default-found-clause-few c =
+    let e = c.in_ok-looked.ensures.only.same in
+    same_few c.args.machine.now c.looked_call.new.machine (ap (λ z. z.counts) e) (ap (λ z. z.choices.items) e)
+
+pub returns-clause-few : goal.returns-clause-few
+returns-clause-few c =
+    let m = c.args.machine.now in
+    let n = c.looked_call.new.machine in
+    let e = c.in_ok-looked.ensures.only.same in
+    few_then m n c.try_candidate.new.machine (ap (λ z. z.counts) e) (ap (λ z. z.choices.items) e)
+    (spent_few n c.try_candidate.new.machine c.in-Some-found.candidate c.in_ok-turn.ensures.spent)

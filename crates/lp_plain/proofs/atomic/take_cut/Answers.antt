@@ -17,6 +17,7 @@ use Rattle.lp_plain.proofs.ProgramKept.{goals_keep, program_same}
 use Rattle.std.proofs.Common.{inl, inr}
 use Rattle.lp_plain.proofs.CutMoves.{cut_tells}
 use Rattle.lp_plain.proofs.HeardParts.{told_part}
+use Rattle.lp_plain.proofs.Remains.{cut_used}
 use Rattle.lp_plain.proofs.atomic.take_cut.Goals as goal
 
 pub returns-clause-cuts : goal.returns-clause-cuts
@@ -141,3 +142,12 @@ returns-clause-within g c = λ qv a raw s h at. inr (
   CutNote,
   cut_tells qv c.args.machine.now c.args.place c.args.behind (c.if-not-take_step.ensures.there refl) a raw s h at,
 )
+
+pub returns-then-not-take_step-clause-uses : goal.returns-then-not-take_step-clause-uses
+returns-then-not-take_step-clause-uses g c = λ e. absurd e
+
+pub returns-clause-uses : goal.returns-clause-uses
+returns-clause-uses g c = λ e.
+    let z = returns-clause-cuts g c in
+    let u = cut_used c.args.machine.now c.cut.new.self _ c.args.place.mark z.counts z.choices (c.if-not-take_step.ensures.there refl) in
+    record { counts = u.counts; choices = u.choices }

@@ -9,6 +9,7 @@ use Rattle.lp_plain.proofs.ProgramKept.{at_keeps, goals_keep, program_then, unif
 use Rattle.lp_plain.proofs.TrialsFound.{candidate_written}
 use Rattle.lp_plain.proofs.TryMoves.{goal_ready, trial_ready, try_leads}
 use Rattle.lp_plain.proofs.WrittenSearches.{same_lists}
+use Rattle.lp_plain.proofs.Remains.{spent_then}
 use Rattle.lp_plain.proofs.atomic.try_candidate.Goals as goal
 
 pub returns-clause-leads : goal.returns-clause-leads
@@ -51,3 +52,8 @@ returns-clause-ends c = subst IsGoalTurn (sym c.turn_of.ensures) (unified_ends c
 
 pub returns-clause-steps : goal.returns-clause-steps
 returns-clause-steps c = ap (λ z. z.steps) (c.in_ok-unified.ensures.grows.counts ∙ c.in_ok-put_others.ensures.counts)
+
+pub returns-clause-spent : goal.returns-clause-spent
+returns-clause-spent c =
+    let g = c.in_ok-unified.ensures.grows in
+    spent_then c.args.machine.now c.put_others.new.machine c.attempt.new.machine c.args.candidate c.in_ok-put_others.ensures.spent g.counts g.choices

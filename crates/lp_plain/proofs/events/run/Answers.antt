@@ -5,6 +5,8 @@ use Rattle.lp_plain.proofs.Passing.{passes_back, passes_first, passes_on}
 use Rattle.lp_plain.proofs.HeardParts.{part_none, parts_behind}
 use Rattle.std.proofs.Common.{arith}
 use Rattle.lp_plain.proofs.Beginning.{both_within}
+use Rattle.std.proofs.Common.{◌<◌, sym}
+use Rattle.lp_plain.specs.inner.Remaining.{left_behind}
 use Rattle.lp_plain.proofs.events.run.Goals as goal
 
 pub turns-init : goal.turns-init
@@ -72,9 +74,6 @@ returns-in_err-turn-in-On-clause-same g c = c.take_turn.ensures.same ∙ c.turns
 pub returns-in_err-turn-in-Back-clause-same : goal.returns-in_err-turn-in-Back-clause-same
 returns-in_err-turn-in-Back-clause-same g c = c.take_turn-in-Back.ensures.same ∙ c.turns.invariant.1
 
-pub returns-clause-same : goal.returns-clause-same
-returns-clause-same g c = c.turns.invariant.1
-
 pub returns-in_err-turn-in-On-clause-begins : goal.returns-in_err-turn-in-On-clause-begins
 returns-in_err-turn-in-On-clause-begins g c = λ k x h.
     let cs = c.args.constants.now in
@@ -93,11 +92,16 @@ returns-in-Answered-clause-begins g c = c.turns.invariant.2
 pub returns-in-Ended-clause-begins : goal.returns-in-Ended-clause-begins
 returns-in-Ended-clause-begins g c = c.turns.invariant.2
 
-pub returns-clause-begins : goal.returns-clause-begins
-returns-clause-begins g c = c.turns.invariant.2
-
 pub returns-in-Answered-clause-within : goal.returns-in-Answered-clause-within
 returns-in-Answered-clause-within g c = c.turns.invariant.3
 
 pub returns-in-Ended-clause-within : goal.returns-in-Ended-clause-within
 returns-in-Ended-clause-within g c = c.turns.invariant.3
+
+pub turns-smaller-in-On : goal.turns-smaller-in-On
+turns-smaller-in-On g c =
+    subst (λ t. left_behind c.in_ok-turn-in-On.turn c.take_turn.new.machine < left_behind t c.turns.machine) (sym c.in-On.is) (c.in_ok-turn-in-On.ensures.less (omega arith))
+
+pub turns-smaller : goal.turns-smaller
+turns-smaller g c =
+    subst (λ t. left_behind c.in_ok-turn-in-Back.turn c.take_turn-in-Back.new.machine < left_behind t c.turns.machine) (sym c.in-Back.is) (c.in_ok-turn-in-Back.ensures.less (omega arith))

@@ -6,6 +6,8 @@ use Rattle.std.proofs.Common.{refl}
 use Rattle.lp_plain.specs.Moving.{quiet}
 use Rattle.lp_plain.proofs.HeardParts.{part_none, turn_part}
 use Rattle.std.proofs.Common.{arith}
+use Rattle.std.proofs.Common.{◌<◌, sym}
+use Rattle.lp_plain.specs.inner.Remaining.{left_behind}
 use Rattle.lp_plain.proofs.events.take_turn.Goals as goal
 
 pub returns-in_ok-tell_turn-in-On-clause-stands : goal.returns-in_ok-tell_turn-in-On-clause-stands
@@ -83,3 +85,17 @@ returns-in-Answered-clause-within g c = λ k x h. omega arith
 
 pub returns-in-Ended-clause-within : goal.returns-in-Ended-clause-within
 returns-in-Ended-clause-within g c = λ k x h. omega arith
+
+pub returns-in_ok-tell_turn-in-On-clause-less : goal.returns-in_ok-tell_turn-in-On-clause-less
+returns-in_ok-tell_turn-in-On-clause-less g c = λ p.
+    subst (λ t. left_behind c.in_ok-next-in-On.next c.take_goal.new.machine < left_behind t c.args.machine.now) (sym c.in-On.is) c.in_ok-next-in-On.ensures.less
+
+pub returns-in_ok-tell_turn-in-Back-clause-less : goal.returns-in_ok-tell_turn-in-Back-clause-less
+returns-in_ok-tell_turn-in-Back-clause-less g c = λ p.
+    subst (λ t. left_behind c.in_ok-next-in-Back.next c.go_back.new.machine < left_behind t c.args.machine.now) (sym c.in-Back.is) c.in_ok-next-in-Back.ensures.less
+
+pub returns-in-Answered-clause-less : goal.returns-in-Answered-clause-less
+returns-in-Answered-clause-less g c = λ p. absurd (let q = subst (λ t. 0 < left_behind t c.args.machine.now) c.in-Answered.is p in omega (arith, q))
+
+pub returns-in-Ended-clause-less : goal.returns-in-Ended-clause-less
+returns-in-Ended-clause-less g c = λ p. absurd (let q = subst (λ t. 0 < left_behind t c.args.machine.now) c.in-Ended.is p in omega (arith, q))

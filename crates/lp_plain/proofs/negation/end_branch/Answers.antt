@@ -1,12 +1,15 @@
 use Rattle.lp_plain.proofs.Growing.{grows_kept}
 use Rattle.lp_plain.proofs.WrittenSearches.{search_cut}
-use Rattle.std.proofs.Common.{◌≡◌, ◌∙◌, ap, subst, take}
+use Rattle.std.proofs.Common.{◌≡◌, ◌∙◌, ◌≤◌, ap, subst, sym, take}
 use Rattle.std.specs.Prelude.{IfSome, slice_get}
 use Rattle.lp_plain.specs.declared.choice.Choice.{Choice}
 use Rattle.lp_plain.specs.Keeping.{IsAround}
 use Rattle.lp_plain.proofs.HeldMoves.{held_back, held_open, no_items, some_items}
 use Rattle.std.proofs.Common.{refl}
 use Rattle.lp_plain.proofs.ProgramKept.{goals_keep, program_same}
+use Rattle.std.proofs.Common.{arith}
+use Rattle.lp_plain.specs.inner.Remaining.{remaining, total}
+use Rattle.lp_plain.proofs.Remains.{back_same, total_take}
 use Rattle.lp_plain.proofs.negation.end_branch.Goals as goal
 
 pub returns-in_default-clause-written : goal.returns-in_default-clause-written
@@ -47,3 +50,16 @@ returns-then-not-is_empty-clause-program c = program_same c.args.machine.now c.a
 
 pub returns-clause-program : goal.returns-clause-program
 returns-clause-program c = goals_keep c.args.machine.now c.drop_denied.new.self c.drop_denied.ensures.goals
+
+pub returns-in_default-clause-less : goal.returns-in_default-clause-less
+returns-in_default-clause-less c = omega arith
+
+pub returns-then-not-is_empty-clause-less : goal.returns-then-not-is_empty-clause-less
+returns-then-not-is_empty-clause-less c = omega arith
+
+pub returns-clause-less : goal.returns-clause-less
+returns-clause-less c =
+    let m = c.args.machine.now in
+    let n = c.drop_denied.new.self in
+    let d = c.drop_denied.ensures in
+    back_same m n (ap remaining d.counts) (subst (λ z. total z ≤ total m.choices.items) (sym d.dropped) (total_take c.in-Some.number m.choices.items))

@@ -24,6 +24,8 @@ use Rattle.lp_plain.proofs.DenyTurns.{ends_at_steps, ends_deep, ends_open, searc
 use Rattle.std.proofs.Common.{inl, inr}
 use Rattle.lp_plain.proofs.DenyTurns.{not_tells}
 use Rattle.lp_plain.proofs.HeardParts.{told_part}
+use Rattle.lp_plain.specs.Negations.{denial}
+use Rattle.lp_plain.proofs.Remains.{denied_used}
 use Rattle.lp_plain.proofs.negation.take_not.Goals as goal
 
 pub returns-in-Deep-clause-takes : goal.returns-in-Deep-clause-takes
@@ -215,3 +217,20 @@ returns-in_ok-begin-in-Closed-clause-within g c = λ qv a raw s h at. inr (
   GoalNote (named not_constant),
   not_tells qv c.args.machine.now a raw s h c.args.place c.args.goals c.args.free c.args.behind at (c.take_step.ensures.there c.if-not-take_step.false),
 )
+
+pub returns-then-not-take_step-clause-uses : goal.returns-then-not-take_step-clause-uses
+returns-then-not-take_step-clause-uses g c = λ e. absurd e
+
+pub returns-in-Deep-clause-uses : goal.returns-in-Deep-clause-uses
+returns-in-Deep-clause-uses g c = λ e. absurd e
+
+pub returns-in-Open-clause-uses : goal.returns-in-Open-clause-uses
+returns-in-Open-clause-uses g c = λ e. absurd e
+
+pub returns-in_ok-begin-in-Closed-clause-uses : goal.returns-in_ok-begin-in-Closed-clause-uses
+returns-in_ok-begin-in-Closed-clause-uses g c = λ e.
+    let t = c.take_step.ensures in
+    let o = c.openness_at.ensures in
+    let b = c.in_ok-begin-in-Closed.ensures in
+    denied_used c.args.machine.now c.openness_at.new.machine c.begin.new.machine (denial c.openness_at.new.machine c.args.behind)
+    (o.counts ∙ t.counts c.if-not-take_step.false) (ap (λ z. z.items) (o.choices ∙ t.choices)) b.begun.counts b.more (t.there c.if-not-take_step.false)

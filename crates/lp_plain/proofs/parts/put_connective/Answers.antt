@@ -14,6 +14,7 @@ use Rattle.lp_plain.proofs.TakenApart.{known_taken, no_other, stands_known}
 use Rattle.lp_plain.proofs.WrittenParts.{behind_writes, connective_writes}
 use Rattle.lp_plain.proofs.NoneBound.{none_apart, none_with, with_apart}
 use Rattle.lp_plain.proofs.ProgramKept.{apart_at, apart_goals, program_same}
+use Rattle.lp_plain.proofs.Remains.{apart_used, same_few}
 use Rattle.lp_plain.proofs.parts.put_connective.Goals as goal
 
 pub returns-in_ok-put_and-in-And-clause-and : goal.returns-in_ok-put_and-in-And-clause-and
@@ -205,3 +206,42 @@ returns-in-True-clause-program c = apart_goals c.args.machine.now c.take_apart.n
 
 pub returns-in-Cut-clause-program : goal.returns-in-Cut-clause-program
 returns-in-Cut-clause-program c = apart_goals c.args.machine.now c.take_apart.new.machine c.go_behind-in-Cut.new.machine (c.if-not-take_apart.ensures.apart refl) c.go_behind-in-Cut.ensures.known
+
+pub returns-then-not-take_apart-clause-uses : goal.returns-then-not-take_apart-clause-uses
+returns-then-not-take_apart-clause-uses c = λ e. absurd e
+
+pub returns-in_ok-put_or-in-Or-clause-uses : goal.returns-in_ok-put_or-in-Or-clause-uses
+returns-in_ok-put_or-in-Or-clause-uses c = λ e.
+    let t = c.if-not-take_apart.ensures in
+    let k = c.take_apart.new.machine in
+    apart_used c.args.machine.now k c.put_or.new.machine (t.apart refl) (t.taken refl).0 (c.in_ok-put_or-in-Or.ensures.few)
+
+pub returns-in_ok-put_and-in-And-clause-uses : goal.returns-in_ok-put_and-in-And-clause-uses
+returns-in_ok-put_and-in-And-clause-uses c = λ e.
+    let t = c.if-not-take_apart.ensures in
+    let k = c.take_apart.new.machine in
+    apart_used c.args.machine.now k c.put_and.new.machine (t.apart refl) (t.taken refl).0 (let e = c.in_ok-put_and-in-And.ensures in same_few k c.put_and.new.machine e.counts e.choices)
+
+pub returns-in_ok-put_for_all-in-ForAll-clause-uses : goal.returns-in_ok-put_for_all-in-ForAll-clause-uses
+returns-in_ok-put_for_all-in-ForAll-clause-uses c = λ e.
+    let t = c.if-not-take_apart.ensures in
+    let k = c.take_apart.new.machine in
+    apart_used c.args.machine.now k c.put_for_all.new.machine (t.apart refl) (t.taken refl).0 (let e = c.in_ok-put_for_all-in-ForAll.ensures in same_few k c.put_for_all.new.machine e.counts e.choices)
+
+pub returns-in_ok-put_exists-in-Exists-clause-uses : goal.returns-in_ok-put_exists-in-Exists-clause-uses
+returns-in_ok-put_exists-in-Exists-clause-uses c = λ e.
+    let t = c.if-not-take_apart.ensures in
+    let k = c.take_apart.new.machine in
+    apart_used c.args.machine.now k c.put_exists.new.machine (t.apart refl) (t.taken refl).0 (let e = c.in_ok-put_exists-in-Exists.ensures in same_few k c.put_exists.new.machine e.counts e.choices)
+
+pub returns-in-True-clause-uses : goal.returns-in-True-clause-uses
+returns-in-True-clause-uses c = λ e.
+    let t = c.if-not-take_apart.ensures in
+    let k = c.take_apart.new.machine in
+    apart_used c.args.machine.now k c.go_behind.new.machine (t.apart refl) (t.taken refl).0 (let e = c.go_behind.ensures in same_few k c.go_behind.new.machine e.counts (ap (λ z. z.items) e.choices))
+
+pub returns-in-Cut-clause-uses : goal.returns-in-Cut-clause-uses
+returns-in-Cut-clause-uses c = λ e.
+    let t = c.if-not-take_apart.ensures in
+    let k = c.take_apart.new.machine in
+    apart_used c.args.machine.now k c.go_behind-in-Cut.new.machine (t.apart refl) (t.taken refl).0 (let e = c.go_behind-in-Cut.ensures in same_few k c.go_behind-in-Cut.new.machine e.counts (ap (λ z. z.items) e.choices))

@@ -16,6 +16,7 @@ use Rattle.std.proofs.Common.{[]}
 use Rattle.lp_plain.proofs.Growing.{grows_kept}
 use Rattle.lp_plain.proofs.WrittenGrows.{list_in_later}
 use Rattle.lp_plain.proofs.WrittenSearches.{search_aside, search_list, search_same}
+use Rattle.lp_plain.proofs.Remains.{aside_few, few_behind, few_then}
 use Rattle.lp_plain.proofs.parts.put_either.Goals as goal
 
 pub returns-clause-parts : goal.returns-clause-parts
@@ -164,3 +165,16 @@ returns-clause-written c = λ ar i w s.
     (record { type_vars = w.type_vars; binders = w.binders; values = w.values; scope_holds = w.scope_holds; have = w.have; is = w.is.0 }) in
     let z = search_list three c.put_list-2.new.self c.args.left p c.args.behind f.goals f.assumed f.course.choices f.puts ar i3 l s3 in
     record { at_work = z.at_work; alternatives = z.alternatives; older = z.older }
+
+pub returns-clause-few : goal.returns-clause-few
+returns-clause-few c =
+    let m = c.args.machine.now in
+    let one = c.put_list.new.self in
+    let two = c.put_choice.new.self in
+    let o = c.in_ok-other.ensures.course in
+    let k = c.in_ok-put_choice.ensures in
+    let n = c.in_ok-note.ensures.course in
+    let f = c.in_ok-one.ensures.course in
+    let u = few_behind m two c.put_list-2.new.self (f.counts ∙ n.counts) (f.choices ∙ n.choices)
+    (few_then m one two o.counts o.choices (aside_few one two c.in_ok-other.other k.counts k.more)) in
+    record { counts = u.counts; choices = u.choices }

@@ -14,6 +14,7 @@ use Rattle.lp_plain.proofs.Growing.{grows_kept}
 use Rattle.lp_plain.proofs.WrittenSearches.{search_aside, search_same, search_term}
 use Rattle.lp_plain.specs.Moving.{IsPutWith}
 use Rattle.lp_plain.proofs.NoneBound.{none_kept, put_with}
+use Rattle.lp_plain.proofs.Remains.{aside_few, few_behind, few_then}
 use Rattle.lp_plain.proofs.parts.put_or.Goals as goal
 
 pub returns-clause-parts : goal.returns-clause-parts
@@ -139,3 +140,16 @@ returns-clause-aside_with c = λ k e.
     let x = c.in_ok-put_choice.ensures.alternative in
     let same = last_same one.choices.items m.choices.items x.choice k (sym (c.in_ok-one.ensures.course.choices ∙ c.in_ok-note.ensures.course.choices ∙ x.more) ∙ e) in
     subst (IsPutWith m) same.1 (put_with m one two _ x (none_kept m one o.goals o.course))
+
+pub returns-clause-few : goal.returns-clause-few
+returns-clause-few c =
+    let m = c.args.machine.now in
+    let one = c.put_frame.new.self in
+    let two = c.put_choice.new.self in
+    let o = c.in_ok-other.ensures.course in
+    let k = c.in_ok-put_choice.ensures in
+    let n = c.in_ok-note.ensures.course in
+    let f = c.in_ok-one.ensures.course in
+    let u = few_behind m two c.put_frame-2.new.self (f.counts ∙ n.counts) (f.choices ∙ n.choices)
+    (few_then m one two o.counts o.choices (aside_few one two c.in_ok-other.other k.counts k.more)) in
+    record { counts = u.counts; choices = u.choices }

@@ -14,6 +14,7 @@ use Rattle.lp_plain.proofs.TakenApart.{all_taken, assume_taken, either_taken, no
 use Rattle.lp_plain.proofs.WrittenParts.{all_writes, assume_writes, either_writes, some_writes}
 use Rattle.lp_plain.proofs.HeadsWritten.{not_headless}
 use Rattle.lp_plain.proofs.ProgramKept.{apart_at, apart_keeps, program_same, program_then}
+use Rattle.lp_plain.proofs.Remains.{apart_used, same_few}
 use Rattle.lp_plain.proofs.parts.put_parts.Goals as goal
 
 pub returns-in_ok-put_either-in-Either-clause-either : goal.returns-in_ok-put_either-in-Either-clause-either
@@ -160,7 +161,7 @@ returns-in_ok-turn-in-Assume-clause-aside c = λ e h.
     let m = c.args.machine.now in
     let k = c.take_apart.new.machine in
     let n = c.put_assume.new.machine in
-    aside_apart m k n c.args.place c.args.behind (c.if-not-take_apart.ensures.apart refl) (none_aside k n c.args.place c.args.behind (c.in_ok-turn-in-Assume.ensures.choices e))
+    aside_apart m k n c.args.place c.args.behind (c.if-not-take_apart.ensures.apart refl) (none_aside k n c.args.place c.args.behind c.in_ok-turn-in-Assume.ensures.choices)
 
 pub returns-in-Atom-clause-marks : goal.returns-in-Atom-clause-marks
 returns-in-Atom-clause-marks c = λ e h. absurd (subst IsApartFlat c.in-Atom.is h)
@@ -211,7 +212,7 @@ returns-in_ok-turn-in-Assume-clause-none c = λ e h. none_apart c.args.machine.n
 pub returns-in_ok-turn-in-Assume-clause-aside_with : goal.returns-in_ok-turn-in-Assume-clause-aside_with
 returns-in_ok-turn-in-Assume-clause-aside_with c = λ e h. with_apart c.args.machine.now c.take_apart.new.machine c.put_assume.new.machine
     (c.if-not-take_apart.ensures.apart refl) (none_with c.take_apart.new.machine c.put_assume.new.machine
-    (c.in_ok-turn-in-Assume.ensures.choices e))
+    c.in_ok-turn-in-Assume.ensures.choices)
 
 pub returns-in-Atom-clause-none : goal.returns-in-Atom-clause-none
 returns-in-Atom-clause-none c = λ e h. absurd (subst IsApartFlat c.in-Atom.is h)
@@ -321,3 +322,48 @@ returns-in_ok-turn-in-Assume-clause-counted c = λ ar w.
 
 pub returns-in_ok-turn-in-Assume-clause-ends : goal.returns-in_ok-turn-in-Assume-clause-ends
 returns-in_ok-turn-in-Assume-clause-ends c = c.in_ok-turn-in-Assume.ensures.ends
+
+pub returns-then-not-take_apart-clause-uses : goal.returns-then-not-take_apart-clause-uses
+returns-then-not-take_apart-clause-uses c = λ e. absurd e
+
+pub returns-in_ok-put_either-in-Either-clause-uses : goal.returns-in_ok-put_either-in-Either-clause-uses
+returns-in_ok-put_either-in-Either-clause-uses c = λ e.
+    let t = c.if-not-take_apart.ensures in
+    let k = c.take_apart.new.machine in
+    apart_used c.args.machine.now k c.put_either.new.machine (t.apart refl) (t.taken refl).0 (c.in_ok-put_either-in-Either.ensures.few)
+
+pub returns-in_ok-put_some-in-Some-clause-uses : goal.returns-in_ok-put_some-in-Some-clause-uses
+returns-in_ok-put_some-in-Some-clause-uses c = λ e.
+    let t = c.if-not-take_apart.ensures in
+    let k = c.take_apart.new.machine in
+    apart_used c.args.machine.now k c.put_some.new.machine (t.apart refl) (t.taken refl).0 (let e = c.in_ok-put_some-in-Some.ensures in same_few k c.put_some.new.machine e.counts e.choices)
+
+pub returns-in_ok-put_all-in-All-clause-uses : goal.returns-in_ok-put_all-in-All-clause-uses
+returns-in_ok-put_all-in-All-clause-uses c = λ e.
+    let t = c.if-not-take_apart.ensures in
+    let k = c.take_apart.new.machine in
+    apart_used c.args.machine.now k c.put_all.new.machine (t.apart refl) (t.taken refl).0 (let e = c.in_ok-put_all-in-All.ensures in same_few k c.put_all.new.machine e.counts e.choices)
+
+pub returns-in_ok-turn-in-Assume-clause-uses : goal.returns-in_ok-turn-in-Assume-clause-uses
+returns-in_ok-turn-in-Assume-clause-uses c = λ e.
+    let t = c.if-not-take_apart.ensures in
+    let k = c.take_apart.new.machine in
+    apart_used c.args.machine.now k c.put_assume.new.machine (t.apart refl) (t.taken refl).0 (let e = c.in_ok-turn-in-Assume.ensures in same_few k c.put_assume.new.machine e.counts e.choices)
+
+pub returns-in-Atom-clause-uses : goal.returns-in-Atom-clause-uses
+returns-in-Atom-clause-uses c = λ e.
+    let t = c.if-not-take_apart.ensures in
+    let k = c.take_apart.new.machine in
+    apart_used c.args.machine.now k k (t.apart refl) (t.taken refl).0 (same_few k k refl refl)
+
+pub returns-in-Cut-clause-uses : goal.returns-in-Cut-clause-uses
+returns-in-Cut-clause-uses c = λ e.
+    let t = c.if-not-take_apart.ensures in
+    let k = c.take_apart.new.machine in
+    apart_used c.args.machine.now k k (t.apart refl) (t.taken refl).0 (same_few k k refl refl)
+
+pub returns-in-Not-clause-uses : goal.returns-in-Not-clause-uses
+returns-in-Not-clause-uses c = λ e.
+    let t = c.if-not-take_apart.ensures in
+    let k = c.take_apart.new.machine in
+    apart_used c.args.machine.now k k (t.apart refl) (t.taken refl).0 (same_few k k refl refl)

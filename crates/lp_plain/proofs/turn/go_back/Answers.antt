@@ -16,6 +16,10 @@ use Rattle.lp_plain.proofs.WrittenFirst.{back_written}
 use Rattle.lp_plain.proofs.WrittenSearches.{search_back}
 use Rattle.lp_plain.proofs.RefutedMoves.{by_end, last_above}
 use Rattle.lp_plain.proofs.DenyStands.{refuted_stands}
+use Rattle.std.proofs.Common.{arith}
+use Rattle.std.specs.Prelude.{IfSome}
+use Rattle.lp_plain.specs.inner.Remaining.{IsPopped, remaining}
+use Rattle.lp_plain.proofs.Remains.{popped_denied, popped_on, popped_tried}
 use Rattle.lp_plain.proofs.turn.go_back.Goals as goal
 
 pub returns-in_ok-go_right-in-Goals-clause-goes : goal.returns-in_ok-go_right-in-Goals-clause-goes
@@ -362,3 +366,32 @@ returns-in_ok-turn-in-Clauses-clause-steps c = c.in_ok-turn-in-Clauses.ensures.s
 
 pub returns-in-Denied-clause-steps : goal.returns-in-Denied-clause-steps
 returns-in-Denied-clause-steps c = c.end_denial.ensures.steps ∙ c.in_ok-untried.ensures.steps
+
+pub returns-then-machine-clause-less : goal.returns-then-machine-clause-less
+returns-then-machine-clause-less c = omega arith
+
+pub returns-in_default-clause-less : goal.returns-in_default-clause-less
+returns-in_default-clause-less c = omega arith
+
+pub returns-in_ok-go_right-in-Goals-clause-less : goal.returns-in_ok-go_right-in-Goals-clause-less
+returns-in_ok-go_right-in-Goals-clause-less c =
+    let m = c.args.machine.now in
+    let k = c.take_choice.new.self in
+    let n = c.go_right.new.machine in
+    let e = c.in_ok-go_right-in-Goals.ensures in
+    popped_on m k n c.in-Some.untried (subst (λ o. IfSome o (IsPopped m k)) c.in-Some.is c.in_ok-untried.ensures.popped) (ap remaining e.counts) e.choices
+
+pub returns-in_ok-turn-in-Clauses-clause-less : goal.returns-in_ok-turn-in-Clauses-clause-less
+returns-in_ok-turn-in-Clauses-clause-less c =
+    let m = c.args.machine.now in
+    let k = c.take_choice.new.self in
+    popped_tried c.in_ok-turn-in-Clauses.turn m k c.try_candidate.new.machine c.in-Some.untried c.in-Clauses.call c.in-Clauses.candidate
+    (subst (λ o. IfSome o (IsPopped m k)) c.in-Some.is c.in_ok-untried.ensures.popped) c.in-Clauses.is c.in_ok-turn-in-Clauses.ensures.spent
+
+pub returns-in-Denied-clause-less : goal.returns-in-Denied-clause-less
+returns-in-Denied-clause-less c =
+    let m = c.args.machine.now in
+    let k = c.take_choice.new.self in
+    let e = c.end_denial.ensures in
+    popped_denied c.end_denial.result m k c.end_denial.new.machine c.in-Some.untried c.in-Denied.denial
+    (subst (λ o. IfSome o (IsPopped m k)) c.in-Some.is c.in_ok-untried.ensures.popped) e.only e.cut e.holds

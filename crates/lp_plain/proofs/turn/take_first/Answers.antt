@@ -19,6 +19,7 @@ use Rattle.lp_model.specs.Branch.{Branch}
 use Rattle.lp_plain.specs.Denials.{TakesDenied}
 use Rattle.std.proofs.Common.{inl}
 use Rattle.lp_plain.proofs.Beginning.{counts_from}
+use Rattle.lp_plain.proofs.Remains.{back_same, from_same, uses_less}
 use Rattle.lp_plain.proofs.turn.take_first.Goals as goal
 
 pub returns-then-count-le1-clause-taken : goal.returns-then-count-le1-clause-taken
@@ -311,3 +312,15 @@ returns-in_default-clause-begins g c = λ qv a raw s h at w. inl refl
 
 pub returns-in_default-clause-within : goal.returns-in_default-clause-within
 returns-in_default-clause-within g c = λ qv a raw s h at w. inl refl
+
+pub returns-in_default-clause-less : goal.returns-in_default-clause-less
+returns-in_default-clause-less g c = back_same c.args.machine.now c.args.machine.now refl (omega arith)
+
+pub returns-then-count-le1-clause-less : goal.returns-then-count-le1-clause-less
+returns-then-count-le1-clause-less g c = uses_less c.in_ok-turn.turn c.args.machine.now c.take_flat.new.machine c.in_ok-turn.ensures.uses
+
+pub returns-clause-less : goal.returns-clause-less
+returns-clause-less g c =
+    let k = c.in_ok-rest.ensures.course in
+    from_same c.in_ok-turn-2.turn c.args.machine.now c.put_frame.new.self c.take_flat-2.new.machine k.counts k.choices
+    (uses_less c.in_ok-turn-2.turn c.put_frame.new.self c.take_flat-2.new.machine c.in_ok-turn-2.ensures.uses)

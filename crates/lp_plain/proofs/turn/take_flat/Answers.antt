@@ -17,6 +17,7 @@ use Rattle.lp_plain.proofs.CallTerms.{only_program, only_written}
 use Rattle.lp_plain.proofs.DenyFirst.{no_denied_first, not_written}
 use Rattle.std.proofs.Common.{inl}
 use Rattle.lp_plain.proofs.Beginning.{counts_from}
+use Rattle.lp_plain.proofs.Remains.{used_from}
 use Rattle.lp_plain.proofs.turn.take_flat.Goals as goal
 
 pub returns-in_ok-turn-in-Atom-clause-taken : goal.returns-in_ok-turn-in-Atom-clause-taken
@@ -278,3 +279,17 @@ returns-in_ok-turn-in-Not-clause-within g c = λ qv a raw s h at w.
 pub returns-in_ok-turn-in_default-clause-within : goal.returns-in_ok-turn-in_default-clause-within
 returns-in_ok-turn-in_default-clause-within g c = λ qv a raw s h at w.
     inl (apart_steps c.in_ok-turn-in_default.turn c.args.machine.now.counts c.put_parts.new.machine.counts (c.in_ok-turn-in_default.ensures.counted qv.arity w))
+
+pub returns-in_ok-turn-in-Atom-clause-uses : goal.returns-in_ok-turn-in-Atom-clause-uses
+returns-in_ok-turn-in-Atom-clause-uses g c = λ e.
+    let o = c.in_ok-atom-in-Atom.ensures.bank.same in
+    used_from c.args.machine.now c.instance.new.self c.take_term.new.machine (ap (λ z. z.counts) o) (ap (λ z. z.choices.items) o) (c.in_ok-turn-in-Atom.ensures.uses e)
+
+pub returns-in_ok-turn-in-Cut-clause-uses : goal.returns-in_ok-turn-in-Cut-clause-uses
+returns-in_ok-turn-in-Cut-clause-uses g c = c.in_ok-turn-in-Cut.ensures.uses
+
+pub returns-in_ok-turn-in-Not-clause-uses : goal.returns-in_ok-turn-in-Not-clause-uses
+returns-in_ok-turn-in-Not-clause-uses g c = c.in_ok-turn-in-Not.ensures.uses
+
+pub returns-in_ok-turn-in_default-clause-uses : goal.returns-in_ok-turn-in_default-clause-uses
+returns-in_ok-turn-in_default-clause-uses g c = c.in_ok-turn-in_default.ensures.uses

@@ -29,6 +29,7 @@ use Rattle.lp_plain.proofs.Beginning.{first_part}
 use Rattle.lp_plain.proofs.HeardParts.{part_none}
 use Rattle.std.proofs.Common.{arith}
 use Rattle.lp_plain.proofs.Beginning.{first_within}
+use Rattle.lp_plain.proofs.Remains.{back_same, uses_less}
 use Rattle.lp_plain.proofs.turn.take_goal.Goals as goal
 
 pub returns-in_ok-turn-in-Goals-clause-moves : goal.returns-in_ok-turn-in-Goals-clause-moves
@@ -360,3 +361,15 @@ returns-in_default-found-clause-begins g c = λ k x h. part_none c.args.constant
 
 pub returns-in_default-found-clause-within : goal.returns-in_default-found-clause-within
 returns-in_default-found-clause-within g c = λ k x h. omega arith
+
+pub returns-in_default-clause-less : goal.returns-in_default-clause-less
+returns-in_default-clause-less g c = c.end_branch.ensures.less
+
+pub returns-in_default-found-clause-less : goal.returns-in_default-found-clause-less
+returns-in_default-found-clause-less g c = back_same c.args.machine.now c.args.machine.now refl (omega arith)
+
+pub returns-in_ok-turn-in-Goals-clause-less : goal.returns-in_ok-turn-in-Goals-clause-less
+returns-in_ok-turn-in-Goals-clause-less g c = c.in_ok-turn-in-Goals.ensures.less
+
+pub returns-in_ok-turn-in-Term-clause-less : goal.returns-in_ok-turn-in-Term-clause-less
+returns-in_ok-turn-in-Term-clause-less g c = uses_less c.in_ok-turn-in-Term.turn c.args.machine.now c.take_term.new.machine c.in_ok-turn-in-Term.ensures.uses

@@ -18,6 +18,7 @@ use Rattle.std.proofs.Common.{inl}
 use Rattle.lp_plain.specs.inner.Beginning.{HearsFirst}
 use Rattle.lp_plain.specs.inner.Beginning.{CountsFirst}
 use Rattle.lp_plain.proofs.Beginning.{counts_from}
+use Rattle.lp_plain.proofs.Remains.{used_from}
 use Rattle.lp_plain.proofs.turn.take_term.Goals as goal
 
 pub returns-in_default-clause-leads : goal.returns-in_default-clause-leads
@@ -131,3 +132,16 @@ returns-clause-within g c = λ qv a raw s h at.
     let i = c.in_ok-form.ensures.form k.tree (c.is_apart.ensures.alone c.if-is_apart.false n.bank) in
     atom_turn qv m n only a raw s h c.args.place c.args.term c.in-Some.goal c.args.behind at (subst (LooksAt m n c.args.term) c.in-Some.is c.in_ok-goal.ensures.looks)
     (CountsFirst m q s) (λ h' at'. counts_from m n q s (ap (λ z. z.counts.steps) only.same) (c.in_ok-turn-2.ensures.within qv a raw s h' at' i))
+
+pub returns-in_default-clause-uses : goal.returns-in_default-clause-uses
+returns-in_default-clause-uses g c = λ e. absurd e
+
+pub returns-then-is_apart-clause-uses : goal.returns-then-is_apart-clause-uses
+returns-then-is_apart-clause-uses g c = λ e.
+    let o = c.in_ok-goal.ensures.bank.same in
+    used_from c.args.machine.now c.head_normal.new.machine c.put_connective.new.machine (ap (λ z. z.counts) o) (ap (λ z. z.choices.items) o) (c.in_ok-turn.ensures.uses e)
+
+pub returns-clause-uses : goal.returns-clause-uses
+returns-clause-uses g c = λ e.
+    let o = c.in_ok-goal.ensures.bank.same in
+    used_from c.args.machine.now c.head_normal.new.machine c.take_atom.new.machine (ap (λ z. z.counts) o) (ap (λ z. z.choices.items) o) (c.in_ok-turn-2.ensures.uses e)

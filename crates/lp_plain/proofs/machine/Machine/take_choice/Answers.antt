@@ -1,6 +1,7 @@
 use Rattle.std.proofs.Common.{◌∙◌, Some, ap, sym, take}
 use Rattle.lp_plain.proofs.Restored.{last_same, no_push}
 use Rattle.lp_plain.proofs.CallBacks.{call_state}
+use Rattle.lp_plain.proofs.Remains.{pushed_popped}
 use Rattle.lp_plain.proofs.machine.Machine.take_choice.Goals as goal
 
 pub returns-clause-taken : goal.returns-clause-taken
@@ -41,3 +42,8 @@ returns-clause-trying c = λ qv k rest call one e u l s h. call_state qv c.args.
 
 pub returns-clause-steps : goal.returns-clause-steps
 returns-clause-steps c = ap (λ z. z.steps) c.in_ok-restore.ensures.counts
+
+pub returns-clause-popped : goal.returns-clause-popped
+returns-clause-popped c =
+    let r = c.in_ok-restore.ensures in
+    pushed_popped c.pop.new.self.items c.in-Some.choice c.args.self.now _ c.in-Some.ensures.items (ap (λ z. z.items) r.choices) r.counts
