@@ -1,4 +1,5 @@
 pub mod Leaving
+pub mod Lengths
 pub mod Making
 pub mod Differing
 pub mod Linking

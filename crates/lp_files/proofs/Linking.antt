@@ -10,7 +10,6 @@ use Rattle.lp_code.specs.declared.object.Object.{Object}
 use Rattle.lp_code.specs.declared.image.Image.{Image}
 use Rattle.lp_code.specs.Denote.{denote}
 use Rattle.lp_code.specs.Naming.{object_tables}
-use Rattle.lp_verify.specs.Judged.{AreShort}
 use Rattle.lp_object.specs.Files.{spelled_image, spelled_object}
 use Rattle.lp_object.specs.Plain.{PlainImage, plain_image, plain_object}
 use Rattle.lp_build.specs.Told.{IsTold}
@@ -45,7 +44,7 @@ same_compared xs ys e = subst (λ zs. pointwise nat_eq xs zs ≡ true) e (itself
 
 -- the object that a file holds
 pub object_held : (told : Option Held) (name file slice bytes : List ℕ) (r : Result Object Refusal) → file ≡ name ++ codes ".lpo" → slice ≡ bytes → IsTold told file bytes → IfOk r (λ o. o.name.items ≡ name)
-    → IfOk r (λ o. slice ≡ spelled_object (plain_object o)) → IfOk r (λ o. AreShort o.code.records.items → is_some (denote (object_tables o) o.code.records.items) ≡ true) → IfOk r (IsHeldObject told)
+    → IfOk r (λ o. slice ≡ spelled_object (plain_object o)) → IfOk r (λ o. is_some (denote (object_tables o) o.code.records.items) ≡ true) → IfOk r (IsHeldObject told)
 object_held told name file slice bytes (Ok o) f s there named spelled denotes = record {
   bytes = bytes;
   there = subst (λ w. IsTold told w bytes) (f ∙ ap (λ n. n ++ codes ".lpo") (sym named)) there;

@@ -5,7 +5,6 @@ use Rattle.lp_code.specs.declared.object.Object.{Object}
 use Rattle.lp_code.specs.declared.image.Image.{Image}
 use Rattle.lp_code.specs.Denote.{denote}
 use Rattle.lp_code.specs.Naming.{object_tables}
-use Rattle.lp_verify.specs.Judged.{AreShort}
 use Rattle.lp_link.specs.Linked.{IsLinked}
 use Rattle.lp_object.specs.Files.{spelled_image, spelled_object}
 use Rattle.lp_object.specs.Plain.{PlainImage, plain_image, plain_object}
@@ -47,12 +46,12 @@ pub record IsHeldImage (told : Option Held) (name : List ℕ) (image : PlainImag
 abbrev pub IsMigrated : (told : Option Held) → (name bytes : List ℕ) → Type 0
 IsMigrated told name bytes = (image : PlainImage) × IsHeldImage told name image × (bytes ≡ spelled_image image)
 
--- the bytes under the name of its file spell an object, whose records denote clauses where each has fewer than 2^32 bytes
+-- the bytes under the name of its file spell an object, whose records denote clauses
 pub record IsHeldObject (told : Option Held) (o : Object) : Type 0 where
   pub bytes : List ℕ
   pub there : IsTold told (o.name.items ++ codes ".lpo") bytes
   pub spelled : bytes ≡ spelled_object (plain_object o)
-  pub denotes : AreShort o.code.records.items → is_some (denote (object_tables o) o.code.records.items) ≡ true
+  pub denotes : is_some (denote (object_tables o) o.code.records.items) ≡ true
 
 abbrev pub AreHeldObjects : (told : Option Held) → List Object → Type 0
 AreHeldObjects told os = All (IsHeldObject told) os

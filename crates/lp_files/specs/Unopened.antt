@@ -14,7 +14,7 @@ use Rattle.lp_object.specs.Reading.{image_of, object_of}
 use Rattle.lp_object.specs.Refusing.{Tells}
 use Rattle.lp_object.specs.Spellable.{SpellsImage}
 use Rattle.lp_object.specs.declared.fault.FormatFault.{FormatFault}
-use Rattle.lp_verify.specs.Judged.{AreShort, IsTold as IsVerdict}
+use Rattle.lp_verify.specs.Judged.{IsTold as IsVerdict}
 use Rattle.lp_verify.specs.declared.judging.Verified.{Verified}
 use Rattle.lp_verify.specs.declared.refusal.VerifyRefusal.{VerifyRefusal}
 use Rattle.lp_build.specs.Told.{IsTold}
@@ -33,20 +33,20 @@ image_file name = name ++ codes ".lp"
 abbrev pub IsBroken : Tables → List Record → VerifyRefusal → Type 0
 IsBroken t rs e = IsVerdict {A = Verified} t rs (Err e)
 
--- the bytes of a file are no object of a module: they spell none, for the first fault from left to right; or one of another name; or one whose code, where each record has fewer than
--- 2^32 bytes, denotes nothing, for the first rule that is broken
+-- the bytes of a file are no object of a module: they spell none, for the first fault from left to right; or one of another name; or one whose code denotes nothing,
+-- for the first rule that is broken
 pub data IsMisread (file name bytes : List ℕ) (r : Refusal) : Type 0 where
   no_object : (e : FormatFault) → Tells plain_object (Err e) (object_of bytes) → TellsMisread file e r → IsMisread file name bytes r
   other_object : (o : Object) → bytes ≡ spelled_object (plain_object o) → o.name.items ≢ name → TellsMisnamed file r → IsMisread file name bytes r
   broken_object : (o : Object) (e : VerifyRefusal) → bytes ≡ spelled_object (plain_object o) → o.name.items ≡ name →
-      (AreShort o.code.records.items → IsBroken (object_tables o) o.code.records.items e) → TellsRejected file e r → IsMisread file name bytes r
+      IsBroken (object_tables o) o.code.records.items e → TellsRejected file e r → IsMisread file name bytes r
 
 -- the same of an image
 pub data IsMisreadImage (file name bytes : List ℕ) (r : Refusal) : Type 0 where
   no_image : (e : FormatFault) → Tells plain_image (Err e) (image_of bytes) → TellsMisread file e r → IsMisreadImage file name bytes r
   other_image : (i : Image) → SpellsImage (plain_image i) bytes → i.name.items ≢ name → TellsMisnamed file r → IsMisreadImage file name bytes r
   broken_image : (i : Image) (e : VerifyRefusal) → SpellsImage (plain_image i) bytes → i.name.items ≡ name →
-      (AreShort i.code.records.items → IsBroken (image_tables i) i.code.records.items e) → TellsRejected file e r → IsMisreadImage file name bytes r
+      IsBroken (image_tables i) i.code.records.items e → TellsRejected file e r → IsMisreadImage file name bytes r
 
 -- its file is not read, or has bytes that are none
 pub data IsUnopenedObject (told : Option Held) (name : List ℕ) (r : Refusal) : Type 0 where

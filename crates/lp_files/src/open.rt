@@ -4,7 +4,6 @@ ghost use Rattle.lp_base.specs.declared.limit.Limit.TheVariants as limit;
 ghost use Rattle.lp_base.specs.declared.limits.TheConstants.{MAX_IMAGE_BYTES};
 ghost use Rattle.lp_code.specs.Denote.{denote};
 ghost use Rattle.lp_code.specs.Naming.{object_tables};
-ghost use Rattle.lp_verify.specs.Judged.{AreShort};
 ghost use Rattle.lp_object.specs.Files.{spelled_object};
 ghost use Rattle.lp_code.specs.Length.{AllFit};
 ghost use Rattle.lp_build.specs.Told.{IsTold};
@@ -44,7 +43,7 @@ fn judged_object(alloc: Global, file: &str, name: &str, bytes: &[u8]) -> Result<
     ensures judged { IfErr result IsJudged }
     ensures named { IfOk result (λ object. object.name.items ≡ name.now) }
     ensures spelled { IfOk result (λ object. bytes.now ≡ spelled_object (plain_object object)) }
-    ensures denotes { IfOk result (λ object. AreShort object.code.records.items → is_some (denote (object_tables object) object.code.records.items) ≡ true) }
+    ensures denotes { IfOk result (λ object. is_some (denote (object_tables object) object.code.records.items) ≡ true) }
     ensures cause { IfErr result (IsMisread file.now name.now bytes.now) }
 {
     let object = match read_object(alloc, bytes) {

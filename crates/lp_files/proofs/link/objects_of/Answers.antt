@@ -1,7 +1,6 @@
 use Rattle.std.proofs.Common.{Err, ◌∙◌, ◌++◌, ◌∷◌, [], ap, length, subst, sym, arith}
 use Rattle.std.proofs.lemmas.List.{length_push}
 use Rattle.lp_lines.specs.declared.refusal.Refusal.{Refusal}
-use Rattle.lp_lines.specs.declared.refusal.Refusal.TheVariants as refusal
 use Rattle.lp_lines.proofs.Looking.{looked_then, looked_passed, looked_judged, text_is_judged}
 use Rattle.lp_lemmas.proofs.Results.{passed_up}
 use Rattle.lp_files.specs.Unlinked.{IsUnlinked, IsUnread, of_number, of_object}

@@ -5,6 +5,7 @@ use Rattle.lp_object.specs.Spellable.{SpellsImage}
 use Rattle.lp_verify.specs.declared.judging.Verified.{Verified}
 use Rattle.lp_files.specs.Said.{TellsMisnamed, TellsMisread, TellsRejected}
 use Rattle.lp_files.specs.Unopened.{broken_image, no_image, other_image}
+use Rattle.lp_files.proofs.Lengths.{image_short}
 use Rattle.lp_files.proofs.Unopening.{broken_is}
 use Rattle.lp_files.proofs.open.judged_image.Goals as goal
 
@@ -25,5 +26,5 @@ returns-in-Err-verify-clause-cause c =
     let i = c.in-Ok.image in
     let e = c.in-Err-verify.refusal in
     broken_image i e c.in-Ok.ensures.found.1 (c.if-not-is_of.ensures.named refl)
-    (λ short. broken_is Verified (image_tables i) i.code.records.items e (c.in-Err-verify.ensures.told short))
+    (broken_is Verified (image_tables i) i.code.records.items e (c.in-Err-verify.ensures.told (image_short i c.args.bytes.now c.in-Ok.ensures.found.1)))
     (subst (λ f. TellsRejected f e c.rejected.result) c.as_bytes-in-Err-verify.ensures.value c.rejected.ensures.says)

@@ -2,6 +2,7 @@ use Rattle.std.proofs.Common.{refl, subst}
 use Rattle.lp_code.specs.Naming.{object_tables}
 use Rattle.lp_files.specs.Said.{TellsMisnamed, TellsMisread, TellsRejected}
 use Rattle.lp_files.specs.Unopened.{broken_object, no_object, other_object}
+use Rattle.lp_files.proofs.Lengths.{object_short}
 use Rattle.lp_files.proofs.Unopening.{broken_is}
 use Rattle.lp_files.proofs.open.judged_object.Goals as goal
 
@@ -19,5 +20,8 @@ returns-in-Err-verify_object-clause-cause c =
     let o = c.in-Ok.object in
     let e = c.in-Err-verify_object.refusal in
     broken_object o e c.in-Ok.ensures.found.2 (c.if-not-is_named.ensures.named refl)
-    (λ short. broken_is (Unit {0}) (object_tables o) o.code.records.items e (c.in-Err-verify_object.ensures.told short))
+    (broken_is (Unit {0}) (object_tables o) o.code.records.items e (c.in-Err-verify_object.ensures.told (object_short o c.in-Ok.ensures.found.1)))
     (subst (λ f. TellsRejected f e c.rejected.result) c.as_bytes-in-Err-verify_object.ensures.value c.rejected.ensures.says)
+
+pub returns-in-Ok-verify_object-clause-denotes : goal.returns-in-Ok-verify_object-clause-denotes
+returns-in-Ok-verify_object-clause-denotes c = (c.in-Ok-verify_object.ensures.told (object_short c.in-Ok.object c.in-Ok.ensures.found.1)).1
