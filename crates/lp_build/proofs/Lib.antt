@@ -48,3 +48,5 @@ pub mod SeenBodies
 pub mod OverTerms
 pub mod Over
 pub mod TypedClauses
+pub mod FlatTypes
+pub mod TypedFlat

@@ -17,6 +17,7 @@ use Rattle.lp_link.specs.Numbers.{renumbered}
 use Rattle.lp_module.specs.Program.{Copy, clauses_in}
 use Rattle.lp_module.specs.Schemes.{declared_schemes}
 use Rattle.lp_module.specs.declared.module.Module.{Module}
+use Rattle.lp_build.specs.FlatTypes.{IsTypedClause}
 
 -- kinds below a number, and constants below another one; no logic variables
 abbrev mutual
@@ -69,6 +70,13 @@ HasTypedClauses m = EachOf (λ f. HasType (types_in m.signature) [] f.formula o_
 
 abbrev pub HaveTypedClauses : List Module → Type 0
 HaveTypedClauses modules = (k : ℕ) (m : Module) → slice_get modules k ≡ Some m → HasTypedClauses m
+
+-- what they are flattened to is typed, whatever constants head clauses
+abbrev pub FlattensTyped : Module → Type 0
+FlattensTyped m = (d : ℕ → Option Scheme) (cs : List Clause) → AreFlattened d (clauses_in m) cs → EachOf (IsTypedClause (types_in m.signature)) cs
+
+abbrev pub FlattenTyped : List Module → Type 0
+FlattenTyped modules = (k : ℕ) (m : Module) → slice_get modules k ≡ Some m → FlattensTyped m
 
 -- A module whose flattened clauses these are, over the kinds and constants of its object: they are well typed and within the limits of code, and a constant
 -- heads clauses of the object exactly where its number in the copy does over these declared types.

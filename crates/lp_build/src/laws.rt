@@ -18,7 +18,7 @@ ghost use Rattle.lp_build.specs.Copied.{HasCopies};
 ghost use Rattle.lp_build.specs.Images.{IsImage};
 ghost use Rattle.lp_build.specs.Meant.{AreModules, IsAsWritten, IsModuleAt};
 ghost use Rattle.lp_build.specs.Reads.{AreRead};
-ghost use Rattle.lp_build.specs.Ready.{AreReadyForCode, HasTypedClauses, HaveTypedClauses, HoldWhatTheySee, HoldsWhatItSees};
+ghost use Rattle.lp_build.specs.Ready.{AreReadyForCode, FlattenTyped, FlattensTyped, HasTypedClauses, HaveTypedClauses, HoldWhatTheySee, HoldsWhatItSees};
 ghost use Rattle.lp_build.specs.Refused.{AreWhole, IsModuleFault};
 ghost use Rattle.lp_build.specs.SameNames.{HasOwnTypes, HasSameNames, HasSameTypes, HaveOwnTypes};
 ghost use Rattle.lp_build.specs.declared.sources.Sources.{Sources};
@@ -74,4 +74,10 @@ pub fn modules_hold_what_they_see()
 pub fn modules_have_typed_clauses()
     ensures one { (sources : Sources) (g : Group SignatureText) (t : Group ModuleText) (place : ℕ) (m : Module) → IsModuleAt sources.files.items g t place m → HasTypedClauses m }
     ensures all { (sources : Sources) (modules : List Module) → AreRead sources → AreModules sources modules → HaveTypedClauses modules }
+{}
+
+/// What the clauses of the module of a text are flattened to is typed: each atom is of type `o`, over the types of the constants that the module sees.
+pub fn flattened_clauses_are_typed()
+    ensures one { (sources : Sources) (g : Group SignatureText) (t : Group ModuleText) (place : ℕ) (m : Module) → IsModuleAt sources.files.items g t place m → FlattensTyped m }
+    ensures all { (sources : Sources) (modules : List Module) → AreRead sources → AreModules sources modules → FlattenTyped modules }
 {}
