@@ -42,3 +42,11 @@ pub mod KindsUnder
 pub mod Differing
 pub mod Under
 pub mod Unmaking
+pub mod Sealed
+pub mod SealedTexts
+pub mod SeenBodies
+pub mod OverTerms
+pub mod Over
+pub mod TypedClauses
+pub mod FlatTypes
+pub mod TypedFlat

@@ -28,7 +28,7 @@ use Rattle.lp_build.proofs.TextModules.{meant_ready, texts_are}
 
 -- kinds that have names are seen
 module _ (s : Signature) where
-  kind_over : (k : ℕ) (w : List ℕ) → kind_name (kind_names s) k ≡ Some w → k < 8 + length s.kinds.items
+  pub kind_over : (k : ℕ) (w : List ℕ) → kind_name (kind_names s) k ≡ Some w → k < 8 + length s.kinds.items
   kind_over k w e = by (nat_lt k 8) refl e
     where
       by : (t : Bool) → nat_lt k 8 ≡ t → (if t then slice_get (names_in standard_kinds) k else slice_get (kind_names s) (k - 8)) ≡ Some w → k < 8 + length s.kinds.items

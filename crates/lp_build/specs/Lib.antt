@@ -18,5 +18,6 @@ pub mod Unmade
 pub mod Copied
 pub mod SameNames
 pub mod Images
+pub mod FlatTypes
 pub mod Ready
 pub mod inner

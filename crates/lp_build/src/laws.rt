@@ -18,7 +18,7 @@ ghost use Rattle.lp_build.specs.Copied.{HasCopies};
 ghost use Rattle.lp_build.specs.Images.{IsImage};
 ghost use Rattle.lp_build.specs.Meant.{AreModules, IsAsWritten, IsModuleAt};
 ghost use Rattle.lp_build.specs.Reads.{AreRead};
-ghost use Rattle.lp_build.specs.Ready.{AreReadyForCode};
+ghost use Rattle.lp_build.specs.Ready.{AreReadyForCode, FlattenTyped, FlattensTyped, HasTypedClauses, HaveTypedClauses, HoldWhatTheySee, HoldsWhatItSees};
 ghost use Rattle.lp_build.specs.Refused.{AreWhole, IsModuleFault};
 ghost use Rattle.lp_build.specs.SameNames.{HasOwnTypes, HasSameNames, HasSameTypes, HaveOwnTypes};
 ghost use Rattle.lp_build.specs.declared.sources.Sources.{Sources};
@@ -40,7 +40,7 @@ pub fn an_image_has_the_names_of_the_program()
 /// An image denotes the flattened clauses of the program of the same modules, where the modules are ready for code.
 pub fn an_image_denotes_the_program()
     ensures { (sources : Sources) (image : Image) (h : IsImage sources image) (a : Assembled) (p : IsProgram h.modules h.is.root a) (d : ℕ → Option Scheme) (k : HasCopies h.is.objects h.is.root p.copied)
-        → AreReadyForCode d h.modules p.copied k.copies → (ds : List Clause) × (denote (image_tables image) image.code.records.items ≡ Some ds) × AreFlattened d (map (formula_of a.program.bank) a.program.clauses.items) ds }
+        → AreRead sources → AreReadyForCode d h.modules p.copied k.copies → (ds : List Clause) × (denote (image_tables image) image.code.records.items ≡ Some ds) × AreFlattened d (map (formula_of a.program.bank) a.program.clauses.items) ds }
 {}
 
 /// The signatures over which the module of a text is taken, or refused, are such as texts have, and no more than the text has words.
@@ -62,4 +62,22 @@ pub fn modules_have_the_types_that_are_written()
 pub fn modules_see_the_kinds_of_their_types()
     ensures one { (sources : Sources) (g : Group SignatureText) (t : Group ModuleText) → AreRead sources → AreWhole sources g t → (place : ℕ) (m : Module) → IsModuleAt sources.files.items g t place m → HasOwnTypes m }
     ensures all { (sources : Sources) (modules : List Module) → AreRead sources → AreModules sources modules → HaveOwnTypes modules }
+{}
+
+/// The clauses of the module of a text hold no other kinds and constants than those of the language and those that the module sees.
+pub fn modules_hold_what_they_see()
+    ensures one { (sources : Sources) (g : Group SignatureText) (t : Group ModuleText) → AreRead sources → AreWhole sources g t → (place : ℕ) (m : Module) → IsModuleAt sources.files.items g t place m → HoldsWhatItSees m }
+    ensures all { (sources : Sources) (modules : List Module) → AreRead sources → AreModules sources modules → HoldWhatTheySee modules }
+{}
+
+/// The clauses of the module of a text are of type `o`, over the types of the constants that the module sees.
+pub fn modules_have_typed_clauses()
+    ensures one { (sources : Sources) (g : Group SignatureText) (t : Group ModuleText) (place : ℕ) (m : Module) → IsModuleAt sources.files.items g t place m → HasTypedClauses m }
+    ensures all { (sources : Sources) (modules : List Module) → AreRead sources → AreModules sources modules → HaveTypedClauses modules }
+{}
+
+/// What the clauses of the module of a text are flattened to is typed: each atom is of type `o`, over the types of the constants that the module sees.
+pub fn flattened_clauses_are_typed()
+    ensures one { (sources : Sources) (g : Group SignatureText) (t : Group ModuleText) (place : ℕ) (m : Module) → IsModuleAt sources.files.items g t place m → FlattensTyped m }
+    ensures all { (sources : Sources) (modules : List Module) → AreRead sources → AreModules sources modules → FlattenTyped modules }
 {}
