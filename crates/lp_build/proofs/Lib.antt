@@ -50,3 +50,4 @@ pub mod Over
 pub mod TypedClauses
 pub mod FlatTypes
 pub mod TypedFlat
+pub mod Nested

@@ -19,5 +19,6 @@ pub mod Copied
 pub mod SameNames
 pub mod Images
 pub mod FlatTypes
+pub mod Nested
 pub mod Ready
 pub mod inner

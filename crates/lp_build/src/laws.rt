@@ -17,10 +17,12 @@ ghost use Rattle.lp_module.specs.declared.module.Module.{Module};
 ghost use Rattle.lp_build.specs.Copied.{HasCopies};
 ghost use Rattle.lp_build.specs.Images.{IsImage};
 ghost use Rattle.lp_build.specs.Meant.{AreModules, IsAsWritten, IsModuleAt};
+ghost use Rattle.lp_build.specs.Nested.{FlattensWithin};
 ghost use Rattle.lp_build.specs.Reads.{AreRead};
 ghost use Rattle.lp_build.specs.Ready.{AreReadyForCode, FlattenTyped, FlattensTyped, HasTypedClauses, HaveTypedClauses, HoldWhatTheySee, HoldsWhatItSees};
 ghost use Rattle.lp_build.specs.Refused.{AreWhole, IsModuleFault};
 ghost use Rattle.lp_build.specs.SameNames.{HasOwnTypes, HasSameNames, HasSameTypes, HaveOwnTypes};
+ghost use Rattle.lp_build.specs.Uncoded.{IsWithinCode};
 ghost use Rattle.lp_build.specs.declared.sources.Sources.{Sources};
 ghost use Rattle.lp_build.specs.declared.texts.Group.{Group};
 
@@ -80,4 +82,9 @@ pub fn modules_have_typed_clauses()
 pub fn flattened_clauses_are_typed()
     ensures one { (sources : Sources) (g : Group SignatureText) (t : Group ModuleText) (place : ℕ) (m : Module) → IsModuleAt sources.files.items g t place m → FlattensTyped m }
     ensures all { (sources : Sources) (modules : List Module) → AreRead sources → AreModules sources modules → FlattenTyped modules }
+{}
+
+/// What the clauses of a module that has code are flattened to is within the limits of instructions.
+pub fn clauses_of_code_are_within_its_limits()
+    ensures { («module» : Module) → IsWithinCode «module» → FlattensWithin «module» }
 {}

@@ -36,9 +36,9 @@ pub use build::{Built, build_image, build_object, build_program, modules};
 pub use fault::BuildFault;
 pub use laws::{
     an_image_denotes_the_program, an_image_has_the_copies_of_the_program,
-    an_image_has_the_names_of_the_program, flattened_clauses_are_typed,
-    modules_have_the_types_that_are_written, modules_have_typed_clauses,
-    modules_hold_what_they_see, modules_see_signatures_of_texts,
+    an_image_has_the_names_of_the_program, clauses_of_code_are_within_its_limits,
+    flattened_clauses_are_typed, modules_have_the_types_that_are_written,
+    modules_have_typed_clauses, modules_hold_what_they_see, modules_see_signatures_of_texts,
     modules_see_the_kinds_of_their_types,
 };
 pub use load::{gather, gather_with};
